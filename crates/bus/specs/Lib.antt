@@ -1,0 +1,5 @@
+-- The standard's words, in the order in which they build on each other.
+pub mod Command
+pub mod Mode
+pub mod Kind
+pub mod Status

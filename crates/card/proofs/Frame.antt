@@ -1,0 +1,145 @@
+-- What a write leaves alone, for memory of any length and so for any number of blocks.
+--     other-blocks-kept    a change that keeps to one block leaves every cell of every other
+--     cell-keeps, service-keeps, link-keeps, words-keep    which cells each write keeps to
+--     link-moves           what stands in the table cell after `cell 63 into the table cell`
+-- Assumes nothing.
+use mathlib.Core.Path.{_≡_, refl, _∙_}
+use mathlib.Core.Logic.{_≢_}
+use mathlib.Core.List.{List, [], _∷_}
+use Prim.Native.Nat.{ℕ, suc, _+_, _/_, _%_, _≤_, _<_}
+use native.Mathlib.Decide.{decLt}
+use native.Mathlib.Omega.{arith}
+use lib.ListN.{length, getD, set, length-set}
+use lib.Seq.{sets, length-sets, getD-set-same, getD-set-other}
+use Rattle.card.specs.Memory.{
+  blockCells,
+  wordAddress,
+  cellAt,
+  withCell,
+  withService,
+  withLink,
+}
+use Rattle.card.proofs.MemoryLaws.{
+  addresses-apart,
+  length-with-cell,
+  with-cell-inside,
+  with-cell-past,
+}
+
+-- ---- changes that keep to some addresses
+
+-- the change writes only where `Written` holds, and memory stays as long as it was
+pub record Keeps (Written : ℕ → Type 0) (change : List ℕ → List ℕ) : Type 0 where
+  pub same-length : (ram : List ℕ) → length (change ram) ≡ length ram
+  pub same-else : (ram : List ℕ) (address : ℕ) → (Written address → ⊥)
+      → getD (change ram) address 0 ≡ getD ram address 0
+
+module _ {Written : ℕ → Type 0} where
+  -- one after the other
+  pub keeps-then : {first then : List ℕ → List ℕ} → Keeps Written first → Keeps Written then
+      → Keeps Written (λ ram. then (first ram))
+  keeps-then {first} {then} kept-first kept-then =
+      record {
+        same-length = λ ram. kept-then .same-length (first ram) ∙ kept-first .same-length ram;
+        same-else = λ ram address else.
+            kept-then .same-else (first ram) address else ∙ kept-first .same-else ram address else;
+      }
+
+  -- what keeps to some addresses keeps to more
+  pub keeps-to-more : {More : ℕ → Type 0} {change : List ℕ → List ℕ}
+      → ((address : ℕ) → Written address → More address) → Keeps Written change → Keeps More change
+  keeps-to-more more kept =
+      record {
+        same-length = kept .same-length;
+        same-else = λ ram address else.
+            kept .same-else ram address (λ written. else (more address written));
+      }
+
+-- the address is that of one of the block's cells from `first` to `last`
+pub record InCells (block first last address : ℕ) : Type 0 where
+  pub cell : ℕ
+  pub from : first ≤ cell
+  pub to : cell ≤ last
+  pub is : address ≡ wordAddress block cell
+
+-- a change that keeps to one block leaves every cell of every other block
+pub other-blocks-kept : {block : ℕ} {change : List ℕ → List ℕ}
+    → Keeps (InCells block 0 63) change
+    → (ram : List ℕ) (other cell : ℕ) → other ≢ block → cell < blockCells
+    → cellAt (change ram) other cell ≡ cellAt ram other cell
+unfolding cellAt
+other-blocks-kept kept ram other cell apart inside =
+    kept .same-else ram (wordAddress other cell)
+    (λ written. addresses-apart (omega (arith, written .to)) inside apart (written .is))
+
+-- ---- the writes
+
+-- a store to a cell keeps to that cell
+pub cell-keeps : (block cell word : ℕ)
+    → Keeps (λ address. address ≡ wordAddress block cell) (λ ram. withCell ram block cell word)
+cell-keeps block cell word =
+    record {
+      same-length = λ ram. length-with-cell ram block cell word;
+      same-else = λ ram address else.
+          elim (decLt cell blockCells) [
+            | yes inside ↦
+                rw (with-cell-inside ram block cell word inside)
+                (getD-set-other ram (wordAddress block cell) address word 0 else)
+            | no past ↦ rw (← with-cell-past ram block cell word (omega arith))
+          ];
+    }
+
+-- the service cells alone
+pub service-keeps : (block state closing ticks : ℕ)
+    → Keeps (InCells block 58 61) (λ ram. withService ram block state closing ticks)
+unfolding withService
+service-keeps block state closing ticks =
+    keeps-then (kept 58 state (omega arith) (omega arith))
+    (keeps-then (kept 59 (closing / 65536) (omega arith) (omega arith))
+    (keeps-then (kept 60 (closing % 65536) (omega arith) (omega arith))
+    (kept 61 ticks (omega arith) (omega arith))))
+  where
+    kept : (cell word : ℕ) → 58 ≤ cell → cell ≤ 61
+        → Keeps (InCells block 58 61) (λ ram. withCell ram block cell word)
+    kept cell word from to =
+        keeps-to-more (λ address is. record { cell = cell; from = from; to = to; is = is })
+        (cell-keeps block cell word)
+
+-- the chain rule's ground: `cell 63 into the table cell` leaves every cell but the table cell ..
+pub link-keeps : (block table cell : ℕ)
+    → Keeps (λ address. address ≡ wordAddress table cell) (λ ram. withLink ram block table cell)
+unfolding withLink
+link-keeps block table cell =
+    record {
+      same-length = λ ram. cell-keeps table cell (cellAt ram block 63) .same-length ram;
+      same-else = λ ram address else.
+          cell-keeps table cell (cellAt ram block 63) .same-else ram address else;
+    }
+
+-- .. and that one holds the link
+pub link-moves : (ram : List ℕ) (block table cell : ℕ) → cell < blockCells
+    → wordAddress table cell < length ram
+    → cellAt (withLink ram block table cell) table cell ≡ cellAt ram block 63
+unfolding cellAt withLink
+link-moves ram block table cell inside on-card =
+    rw (with-cell-inside ram table cell (getD ram (wordAddress block 63) 0) inside)
+    (getD-set-same ram (wordAddress table cell) (getD ram (wordAddress block 63) 0) 0 on-card)
+
+-- the host's words, from an address on
+pub words-keep : (address : ℕ) (words : List ℕ)
+    → Keeps (λ at. (address ≤ at) × (at < address + length words)) (λ ram. sets ram address words)
+words-keep address words =
+    record {
+      same-length = λ ram. length-sets ram address words;
+      same-else = λ ram at else. kept words ram address at else;
+    }
+  where
+    kept : (words ram : List ℕ) (address at : ℕ)
+        → ((address ≤ at) × (at < address + length words) → ⊥)
+        → getD (sets ram address words) at 0 ≡ getD ram at 0
+    kept [] ram address at else = refl
+    kept (word ∷ words) ram address at else =
+        kept words (set ram address word) (suc address) at
+        (λ written. else (omega (arith, written .0), omega (arith, written .1)))
+        ∙ getD-set-other ram address at word 0
+        (λ same. else (omega (arith, same), omega (arith, same)))

@@ -1,0 +1,37 @@
+-- The laws of `specs/Host.antt`, and the loop of `write_words`: what is left to store takes memory as
+-- it is to memory as it is to be. Assumes nothing.
+use mathlib.Core.Path.{_≡_, refl, sym, ap, _∙_}
+use mathlib.Core.List.{List, [], _∷_}
+use Prim.Native.Nat.{ℕ, _+_, _≤_, _<_}
+use native.Mathlib.Nat.{add-zero}
+use native.Mathlib.Numerals.{add-one}
+use native.Mathlib.Omega.{arith}
+use lib.ListN.{length, getD, set, drop, drop-of-length-le}
+use lib.Seq.{sets, drop-cons}
+use Rattle.card.specs.Host.{Done, done}
+
+-- ---- the loop
+
+-- the first `word` words are stored: the rest takes `ram` to what is wanted
+pub record Left (wanted ram : List ℕ) (address : ℕ) (words : List ℕ) (word : ℕ) : Type 0 where
+  pub leads : wanted ≡ sets ram (address + word) (drop word words)
+
+module _ (ram : List ℕ) (address : ℕ) (words : List ℕ) where
+  pub left-all : Left (sets ram address words) ram address words 0
+  left-all = record { leads = rw (add-zero address) }
+
+module _ {wanted ram : List ℕ} {address : ℕ} {words : List ℕ} {word : ℕ}
+    (left : Left wanted ram address words word) where
+  pub left-less : word < length words
+      → Left wanted (set ram (address + word) (getD words word 0)) address words (word + 1)
+  left-less inside =
+      let next : address + (word + 1) ≡ address + word + 1 = omega arith in
+      record { leads = left .leads ∙ rw (next, add-one word, add-one (address + word), drop-cons words word 0 inside) }
+
+  pub left-none : length words ≤ word → ram ≡ wanted
+  left-none all = sym (left .leads ∙ rw (drop-of-length-le words {i = word} all))
+
+-- ---- the answer
+
+pub done-ram : (number : ℕ) (ram ram′ : List ℕ) → ram ≡ ram′ → done number ram ≡ done number ram′
+done-ram number ram ram′ same = ap (λ (memory : List ℕ). done number memory) same

@@ -1,0 +1,17 @@
+-- The mathematics of card memory. Read `Frame` first: what each write leaves alone.
+--     Frame         what a write leaves alone, and the chain rule's ground
+--     MemoryLaws    addresses; a store and a read on each way that the code takes
+--     LentBlock     what is done to a lent block is done to that block of the whole
+--     TimeLaws      elapsed time, added to the earlier stamp
+--     HostLaws      the host's write, word by word
+--     SentLaws      the part of words to send
+--     Determined    each public contract allows one outcome alone
+--     Examples      the definitions at work, by computation
+pub mod Frame
+pub mod MemoryLaws
+pub mod LentBlock
+pub mod TimeLaws
+pub mod HostLaws
+pub mod SentLaws
+pub mod Determined
+mod Examples

@@ -1,0 +1,41 @@
+// The host's write of words to card memory.
+ghost use mathlib.Core.Path.{_≡_};
+ghost use Prim.Native.Nat.{_+_, _≤_};
+ghost use lib.ListN.{length};
+ghost use lib.Seq.{sets};
+ghost use Rattle.card.specs.Host.{done, hostWrite};
+use crate::place::CARD_WORDS;
+
+// Stores the words from an address on.
+fn write_words(ram: &mut [u16], address: usize, words: &[u16])
+    requires { ⌜ address + length (now words) ≤ length (now ram) ⌝ }
+    ensures { λ _. ⌜ now (ram .exit) ≡ sets (now (ram .entry)) address (now (words .entry)) ⌝ }
+{
+    let mut word: usize = 0;
+    while word < words.len() {
+        ram[address + word] = words[word];
+        word += 1;
+    }
+}
+
+// Writes 1 to 64 words from an address on, and answers 0 or the number of the refusal.
+pub fn write(ram: &mut [u16], address: u16, words: &[u16]) -> u8
+    ensures { λ number. ⌜ done number (now (ram .exit))
+        ≡ hostWrite (now (ram .entry)) address (now (words .entry)) ⌝ }
+{
+    if ram.len() != CARD_WORDS {
+        return 1;
+    }
+    if words.len() < 1 {
+        return 8;
+    }
+    if words.len() > 64 {
+        return 8;
+    }
+    let first = address as usize;
+    if first + words.len() > CARD_WORDS {
+        return 8;
+    }
+    write_words(ram, first, words);
+    0
+}

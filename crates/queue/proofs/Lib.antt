@@ -1,0 +1,7 @@
+-- The mathematics of the queue.
+--     QueueLaws     joining and reading on each way that the code takes; the scan for fitness
+--     Determined    each public contract allows one outcome alone
+--     Examples      the definitions at work, by computation
+pub mod QueueLaws
+pub mod Determined
+mod Examples

@@ -1,0 +1,1 @@
+// Rules that the proofs of every crate cite. There is no code here: see proofs/Lib.antt.
