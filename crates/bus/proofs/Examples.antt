@@ -14,7 +14,7 @@ use Rattle.bus.specs.declared.kind.Kind.the-variants.{
   Illegal,
 }
 use Rattle.bus.specs.declared.mode.ModeWord.the-variants.{Without, Sent, Taken}
-use Rattle.bus.specs.Command.{addressOf, subaddressOf, modeCodeOf, wordsOf, isTransmit, isMode}
+use Rattle.bus.specs.Command.{addressOf, subaddressOf, wordsOf, isTransmit, isMode}
 use Rattle.bus.specs.Mode.{row, reserved, modeTable, modeOf}
 use Rattle.bus.specs.Kind.{kindOf}
 use Rattle.bus.specs.Status.{statusWord, caughtStatus, withoutError, withError}

@@ -4,7 +4,8 @@ use Prim.Native.Nat.{ℕ, _<_}
 use native.Mathlib.Omega.{arith}
 use Rattle.bus.specs.Status.{withoutError, withError}
 
-pub without-error-of-with-error : (status : ℕ) → withoutError (withError status) ≡ withoutError status
+pub without-error-of-with-error : (status : ℕ)
+    → withoutError (withError status) ≡ withoutError status
 unfolding withoutError withError
 without-error-of-with-error status = omega arith
 

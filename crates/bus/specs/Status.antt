@@ -27,7 +27,7 @@ offersControl kind command =
     not (isIllegal kind) && isMode command && eqb (modeCodeOf command) 0
 
 -- the status that an opening makes. Of the flags, 2 is service request, 3 subsystem, 4 bus control
--- accepted, 5 terminal flag, which inhibit takes away; an illegal command is a message error at once
+-- accepted, 5 terminal flag, which inhibit takes away. An illegal command is an error at once
 unfoldable pub caughtStatus : ℕ → Kind → ℕ → ℕ → Bool → Bool → Status
 caughtStatus station kind command flags busy inhibit =
     record {

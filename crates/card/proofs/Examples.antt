@@ -1,5 +1,5 @@
--- Card memory at work, by computation. The numbers are those of document 01's run where it has them:
--- block 2 of the chain, its table in block 1. Assumes nothing.
+-- Card memory at work, by computation. The numbers are those of document 01's run where it has
+-- them: block 2 of the chain, its table in block 1. Assumes nothing.
 use mathlib.Core.Path.{_≡_, refl}
 use mathlib.Core.Bool.{true, false}
 use mathlib.Core.List.{List, [], _∷_}
@@ -160,7 +160,8 @@ a-card-of-another-size = refl
 
 -- ---- the part of words to send
 
-words-of-block-2 : sentPart (withCell (withCell zeros 2 0 0x1111) 2 1 0x2222) 2 2 ≡ 0x1111 ∷ 0x2222 ∷ []
+words-of-block-2 : sentPart (withCell (withCell zeros 2 0 0x1111) 2 1 0x2222) 2 2
+    ≡ 0x1111 ∷ 0x2222 ∷ []
 unfolding zeros withCell sentPart sentRefusal
 words-of-block-2 = refl
 

@@ -1,5 +1,5 @@
--- The laws of `specs/Host.antt`, and the loop of `write_words`: what is left to store takes memory as
--- it is to memory as it is to be. Assumes nothing.
+-- The laws of `specs/Host.antt`, and the loop of `write_words`: what is left to store takes memory
+-- as it is to memory as it is to be. Assumes nothing.
 use mathlib.Core.Path.{_≡_, refl, sym, ap, _∙_}
 use mathlib.Core.List.{List, [], _∷_}
 use Prim.Native.Nat.{ℕ, _+_, _≤_, _<_}
@@ -26,7 +26,11 @@ module _ {wanted ram : List ℕ} {address : ℕ} {words : List ℕ} {word : ℕ}
       → Left wanted (set ram (address + word) (getD words word 0)) address words (word + 1)
   left-less inside =
       let next : address + (word + 1) ≡ address + word + 1 = omega arith in
-      record { leads = left .leads ∙ rw (next, add-one word, add-one (address + word), drop-cons words word 0 inside) }
+      record {
+        leads =
+            left .leads
+            ∙ rw (next, add-one word, add-one (address + word), drop-cons words word 0 inside);
+      }
 
   pub left-none : length words ≤ word → ram ≡ wanted
   left-none all = sym (left .leads ∙ rw (drop-of-length-le words {i = word} all))

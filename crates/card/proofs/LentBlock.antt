@@ -1,5 +1,5 @@
--- A block that is lent: its part of memory, as far as memory has it. What is done to the lent cells,
--- which are a memory of one block, is done to that block of the whole. Assumes nothing.
+-- A block that is lent: its part of memory, as far as memory has it. What is done to the lent
+-- cells, which are a memory of one block, is done to that block of the whole. Assumes nothing.
 use mathlib.Core.Path.{_≡_, sym, ap, _∙_}
 use mathlib.Core.List.{List}
 use Prim.Native.Nat.{ℕ, _+_, _-_, _/_, _%_, _≤_, _<_, min}
@@ -99,7 +99,8 @@ module _ (ram : List ℕ) (block start : ℕ) where
         → part ≡ withCell (midOf start (end - start) ram) 0 cell word
         → putMid start (end - start) ram part ≡ withCell ram block cell word
     lent-cell cell word starts inside ends is =
-        let lent : Lent ram block start end = record { starts = starts; inside = inside; ends = ends } in
+        let lent : Lent ram block start end =
+        record { starts = starts; inside = inside; ends = ends } in
         rw is (stored-in-part lent (midOf start (end - start) ram) cell word (part-long lent)
         ∙ rw (put-same start (end - start) ram))
 
@@ -108,8 +109,10 @@ module _ (ram : List ℕ) (block start : ℕ) where
         → part ≡ withService (midOf start (end - start) ram) 0 state closing ticks
         → putMid start (end - start) ram part ≡ withService ram block state closing ticks
     lent-service state closing ticks starts inside ends is =
-        let lent : Lent ram block start end = record { starts = starts; inside = inside; ends = ends } in
-        rw is (served-in-part lent (midOf start (end - start) ram) state closing ticks (part-long lent)
+        let lent : Lent ram block start end =
+        record { starts = starts; inside = inside; ends = ends } in
+        rw is
+        (served-in-part lent (midOf start (end - start) ram) state closing ticks (part-long lent)
         ∙ rw (put-same start (end - start) ram))
 
 pub ruleset lends = (unlent-cell, unlent-service, lent-cell, lent-service)

@@ -30,7 +30,8 @@ pub length-with-cell : (ram : List ℕ) (block cell word : ℕ)
 unfolding withCell
 length-with-cell ram block cell word =
     elim (decLt cell blockCells) [
-      | yes inside ↦ rw (lt-ltb cell blockCells inside) (length-set ram (wordAddress block cell) word)
+      | yes inside ↦
+          rw (lt-ltb cell blockCells inside) (length-set ram (wordAddress block cell) word)
       | no past ↦ rw (le-ltb cell blockCells (omega arith))
     ]
 

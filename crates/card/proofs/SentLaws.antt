@@ -1,4 +1,5 @@
--- The laws of `specs/Sent.antt`: what the number 0 tells, and the part on either way. Assumes nothing.
+-- The laws of `specs/Sent.antt`: what the number 0 tells, and the part on either way.
+-- Assumes nothing.
 use mathlib.Core.Path.{_≡_, sym, _∙_}
 use mathlib.Core.List.{List, []}
 use Prim.Native.Nat.{ℕ, _+_, _-_, _≤_, _<_}
@@ -47,27 +48,31 @@ module _ (size block count : ℕ) where
         | no other ↦
             omega (
               arith,
-              rw (lt-ltb block cardBlocks on-card, le-leb 1 count some, lt-leb count 32 (omega arith))
-                  at asked,
+              rw (
+                lt-ltb block cardBlocks on-card,
+                le-leb 1 count some,
+                lt-leb count 32 (omega arith),
+              ) at asked,
             )
       ] in
       record { whole-card = whole-card; on-card = on-card; some = some; at-most-32 = at-most-32 }
 
-module _ (ram : List ℕ) (block count number : ℕ) (asked : number ≡ sentRefusal (length ram) block count)
-  where
-    pub part-refused : (number ≡ 0 → ⊥) → [] ≡ sentPart ram block count
+module _ (ram : List ℕ) (block count number : ℕ)
+    (asked : number ≡ sentRefusal (length ram) block count) where
+  pub part-refused : (number ≡ 0 → ⊥) → [] ≡ sentPart ram block count
+  unfolding sentPart
+  part-refused refused =
+      rw (ne-eqb (sentRefusal (length ram) block count) 0 (rw asked at refused))
+
+  module _ (start : ℕ) where
+    pub part-ends : number ≡ 0 → start ≡ wordAddress block 0 → start + count ≤ length ram
+    part-ends none starts = omega (arith, shown (length ram) block count (sym asked ∙ none))
+
+    pub part-shown : number ≡ 0 → start ≡ wordAddress block 0
+        → take (start + count - start) (drop start ram) ≡ sentPart ram block count
     unfolding sentPart
-    part-refused refused = rw (ne-eqb (sentRefusal (length ram) block count) 0 (rw asked at refused))
-
-    module _ (start : ℕ) where
-      pub part-ends : number ≡ 0 → start ≡ wordAddress block 0 → start + count ≤ length ram
-      part-ends none starts = omega (arith, shown (length ram) block count (sym asked ∙ none))
-
-      pub part-shown : number ≡ 0 → start ≡ wordAddress block 0
-          → take (start + count - start) (drop start ram) ≡ sentPart ram block count
-      unfolding sentPart
-      part-shown none starts =
-          let long : start + count - start ≡ count = omega arith in
-          rw (long, starts, eq-eqb (sentRefusal (length ram) block count) 0 (sym asked ∙ none))
+    part-shown none starts =
+        let long : start + count - start ≡ count = omega arith in
+        rw (long, starts, eq-eqb (sentRefusal (length ram) block count) 0 (sym asked ∙ none))
 
 pub ruleset parts = (part-refused, part-ends, part-shown)

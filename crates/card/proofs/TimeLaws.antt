@@ -1,5 +1,5 @@
--- The law of `specs/Time.antt`, in document 01's words: the elapsed time, added to the earlier stamp,
--- gives the later modulo 4,294,967,296. Assumes nothing.
+-- The law of `specs/Time.antt`, in document 01's words: the elapsed time, added to the earlier
+-- stamp, gives the later modulo 4,294,967,296. Assumes nothing.
 use mathlib.Core.Path.{_≡_}
 use Prim.Native.Nat.{ℕ, _+_, _%_, _<_}
 use native.Mathlib.Omega.{arith}

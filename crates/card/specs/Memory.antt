@@ -26,7 +26,8 @@ cellAt ram block cell = getD ram (wordAddress block cell) 0
 
 -- memory with a word stored in a cell of a block, which has the cells 0 to 63
 unfoldable pub withCell : List ℕ → ℕ → ℕ → ℕ → List ℕ
-withCell ram block cell word = cond (ltb cell blockCells) (set ram (wordAddress block cell) word) ram
+withCell ram block cell word =
+    cond (ltb cell blockCells) (set ram (wordAddress block cell) word) ram
 
 -- memory with a block's service cells written: 58 state word, 59 and 60 closing time by halves,
 -- 61 ticks

@@ -14,4 +14,6 @@ sentRefusal size block count =
 -- the words from the block's cell 0 on; none where the part is refused
 unfoldable pub sentPart : List ℕ → ℕ → ℕ → List ℕ
 sentPart ram block count =
-    cond (eqb (sentRefusal (length ram) block count) 0) (take count (drop (wordAddress block 0) ram)) []
+    cond (eqb (sentRefusal (length ram) block count) 0)
+    (take count (drop (wordAddress block 0) ram))
+    []

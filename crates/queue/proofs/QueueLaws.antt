@@ -84,7 +84,8 @@ module _ {wanted fit : Bool} {places : List ℕ} {place : ℕ}
         comes-to =
             judging .comes-to
             ∙ rw (add-one place, drop-cons places place 0 inside)
-            (sym (and-assoc fit (leb (getD places place 0) 255) (fitPlaces (drop (suc place) places))));
+            (sym
+            (and-assoc fit (leb (getD places place 0) 255) (fitPlaces (drop (suc place) places))));
       }
 
   pub judging-none : (count : ℕ) → length places ≡ count → count ≤ place → fit ≡ wanted

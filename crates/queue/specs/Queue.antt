@@ -33,7 +33,9 @@ unfoldable pub withJoined : ℕ → Queue → Queue
 withJoined block old =
     let ring = old .ring in
     queue
-    (cond (hasRoom ring) (set (old .places) ((ring .start + ring .count) % queuePlaces) block) (old .places))
+    (cond (hasRoom ring)
+    (set (old .places) ((ring .start + ring .count) % queuePlaces) block)
+    (old .places))
     (ringOf (ring .start)
     (cond (hasRoom ring) (ring .count + 1) (ring .count))
     (cond (hasRoom ring) (ring .overflow) true))
@@ -59,7 +61,8 @@ abbrev pub readFrom : Queue → RingRead
 readFrom old = record { word = oldestWord old; ring = withoutOldest (old .ring) }
 
 abbrev pub readOf : Queue → QueueRead
-readOf old = record { word = oldestWord old; queue = queue (old .places) (withoutOldest (old .ring)) }
+readOf old =
+    record { word = oldestWord old; queue = queue (old .places) (withoutOldest (old .ring)) }
 
 -- ---- fitness, as refusal 4 judges it: all 256 places, in use or not
 

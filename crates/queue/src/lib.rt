@@ -43,20 +43,15 @@ impl Ring {
     {
         let start = self.start as usize;
         let count = self.count as usize;
+        let mut ring = self;
         if 256 <= count {
-            return Ring {
-                start: self.start,
-                count: self.count,
-                overflow: true,
-            };
+            ring.overflow = true;
+            return ring;
         }
         let place = (start + count) % 256;
         places[place] = block;
-        Ring {
-            start: self.start,
-            count: self.count + 1,
-            overflow: self.overflow,
-        }
+        ring.count = self.count + 1;
+        ring
     }
 
     // The oldest block leaves: bits 9 to 0, with bit 15 set; bit 10 is the overflow mark.

@@ -52,4 +52,19 @@ granted answer test is seen = rw (← is) (not-false answer seen)
 
 pub ruleset answers = (told, denied, granted)
 
-pub ruleset cases = (yes-case, no-case, eq-eqb, ne-eqb, le-leb, lt-leb, lt-ltb, le-ltb, both, not-first, not-second, at-first, at-second, neither)
+pub ruleset cases = (
+  yes-case,
+  no-case,
+  eq-eqb,
+  ne-eqb,
+  le-leb,
+  lt-leb,
+  lt-ltb,
+  le-ltb,
+  both,
+  not-first,
+  not-second,
+  at-first,
+  at-second,
+  neither,
+)

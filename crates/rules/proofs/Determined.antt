@@ -1,5 +1,6 @@
--- What it means that a contract allows one outcome alone. It is said of the contract as Rattle reads
--- it (a function's generated `Reads.Post`), so nothing is copied from the source. Assumes nothing.
+-- What it means that a contract allows one outcome alone. It is said of the contract as Rattle
+-- reads it (a function's generated `Reads.Post`), so nothing is copied from the source.
+-- Assumes nothing.
 use mathlib.Core.Path.{_≡_, sym, _∙_}
 use mathlib.Core.List.{List}
 use Prim.Native.Nat.{ℕ}

@@ -10,7 +10,8 @@ use Rattle.queue.proofs.places_fit.Statement.{statement}
 use Rattle.queue.proofs.places_fit.Tie as tie
 
 abbrev Inv-loop : tie.InvT-loop
-Inv-loop places fit₀ place₀ fit place = (place ≤ 256) × (length places ≡ 256) × Judging (fitPlaces places) fit places place
+Inv-loop places fit₀ place₀ fit place =
+    (place ≤ 256) × (length places ≡ 256) × Judging (fitPlaces places) fit places place
 
 abbrev μ-loop : tie.MeasureT-loop
 μ-loop places fit₀ place₀ fit place = 256 - place

@@ -10,7 +10,9 @@ use Rattle.card.proofs.host.write_words.Statement.{statement}
 use Rattle.card.proofs.host.write_words.Tie as tie
 
 abbrev Inv-loop : tie.InvT-loop
-Inv-loop ram₀ address words word₀ ram word = (word ≤ length words) × (length ram ≡ length ram₀) × Left (sets ram₀ address words) ram address words word
+Inv-loop ram₀ address words word₀ ram word =
+    (word ≤ length words) × (length ram ≡ length ram₀)
+    × Left (sets ram₀ address words) ram address words word
 
 abbrev μ-loop : tie.MeasureT-loop
 μ-loop ram₀ address words word₀ ram word = length words - word

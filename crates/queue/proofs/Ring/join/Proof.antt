@@ -22,8 +22,8 @@ mul-places c = search needs
 element-write-places : tie.Need-element-write-places
 element-write-places c = search needs
 
-add-t11 : tie.Need-add-t11
-add-t11 c = search needs
+add-ring : tie.Need-add-ring
+add-ring c = search needs
 
 returns-2 : tie.Need-returns-2
 returns-2 c = search (needs, joins)
@@ -38,5 +38,5 @@ join-spec =
     add-place
     mul-places
     element-write-places
-    add-t11
+    add-ring
     returns-2)
