@@ -1,0 +1,61 @@
+-- What happens to the terminal, and what comes of it. Definitions only. Assumes nothing.
+use mathlib.Core.Bool.{Bool, cond}
+use mathlib.Core.List.{List}
+use Prim.Native.Nat.{ℕ}
+use Rattle.terminal.specs.declared.format.Format.{Format}
+use Rattle.terminal.specs.declared.state.OpenMessage.{OpenMessage}
+use Rattle.terminal.specs.declared.state.Message.the-variants.{Open}
+use Rattle.terminal.specs.declared.state.Word.{Word}
+use Rattle.terminal.specs.declared.state.Reply.{Reply}
+use Rattle.terminal.specs.declared.state.Reply.the-variants.{Silent}
+use Rattle.terminal.specs.State.{Card, card, withMessage}
+use Rattle.terminal.specs.Format.{formatOf}
+use Rattle.terminal.specs.Opening.{opening}
+
+-- words and silences of the bus, and the host's actions
+pub data Event : Type 0 where
+  word : Word → Event
+  silence : Bool → ℕ → Event
+  queueRead : Event
+  hostWrite : ℕ → List ℕ → Event
+  tableMove : ℕ → Event
+  flagsWrite : ℕ → Event
+
+-- what comes back: a reply on the bus, or the word of a queue read
+pub data Answer : Type 0 where
+  replied : Reply → Answer
+  queueWord : ℕ → Answer
+
+-- whether the event opened a message, and whether that kept the remembered status
+pub data Opened : Type 0 where
+  none : Opened
+  keeping : Opened
+  afresh : Opened
+
+pub record Outcome : Type 0 where
+  pub card : Card
+  pub answer : Answer
+  pub opened : Opened
+
+-- nothing comes back and nothing opens
+abbrev pub quietly : Card → Outcome
+quietly new = record { card = new; answer = replied Silent; opened = none }
+
+-- ---- the outcomes that come often
+
+unfoldable pub openedBy : Format → Opened
+openedBy format = cond (format .fresh) afresh keeping
+
+-- the word opens a message
+abbrev pub opens : Word → Card → Outcome
+opens word′ old =
+    record {
+      card = opening word′ old;
+      answer = replied Silent;
+      opened = openedBy (formatOf (word′ .value));
+    }
+
+-- the open message goes on
+abbrev pub goesOn : OpenMessage → Card → Outcome
+goesOn message old =
+    quietly (card (withMessage (Open message) (old .core)) (old .queue) (old .ram))

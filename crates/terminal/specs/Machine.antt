@@ -1,0 +1,61 @@
+-- The terminal put together: one step for each event, and a run. Definitions only. Assumes nothing.
+use mathlib.Core.List.{List, [], _∷_}
+use Prim.Native.Nat.{ℕ}
+use lib.Seq.{sets}
+use Rattle.queue.specs.Queue.{oldestWord, withoutOldest, queue}
+use Rattle.terminal.specs.State.{Card, card, withTable, withFlags, withMessage, movedMessage}
+use Rattle.terminal.specs.Event.{
+  Event,
+  word,
+  silence,
+  queueRead,
+  hostWrite,
+  tableMove,
+  flagsWrite,
+  queueWord,
+  none,
+  Outcome,
+  quietly,
+}
+use Rattle.terminal.specs.WordStep.{wordStep}
+use Rattle.terminal.specs.SilenceStep.{silenceStep}
+
+-- the oldest leaves the queue
+unfoldable pub queueReadStep : Card → Outcome
+queueReadStep old =
+    record {
+      card =
+          card (old .core) (queue (old .queue .places) (withoutOldest (old .queue .ring))) (old .ram);
+      answer = queueWord (oldestWord (old .queue));
+      opened = none;
+    }
+
+-- the host writes words from an address on
+unfoldable pub hostWriteStep : ℕ → List ℕ → Card → Outcome
+hostWriteStep address words old =
+    quietly (card (old .core) (old .queue) (sets (old .ram) address words))
+
+-- the host sets the table block, which an open message remembers
+unfoldable pub tableMoveStep : ℕ → Card → Outcome
+tableMoveStep table old =
+    quietly
+    (card (withTable table (withMessage (movedMessage (old .core .message)) (old .core)))
+    (old .queue) (old .ram))
+
+-- the host writes the flags
+unfoldable pub flagsWriteStep : ℕ → Card → Outcome
+flagsWriteStep flags old =
+    quietly (card (withFlags flags (old .core)) (old .queue) (old .ram))
+
+unfoldable pub step : Event → Card → Outcome
+step (word heard) old = wordStep heard old
+step (silence line time) old = silenceStep line time old
+step queueRead old = queueReadStep old
+step (hostWrite address words) old = hostWriteStep address words old
+step (tableMove table) old = tableMoveStep table old
+step (flagsWrite flags) old = flagsWriteStep flags old
+
+-- one event after the other
+unfoldable pub run : List Event → Card → Card
+run [] old = old
+run (event ∷ events) old = run events (step event old .card)

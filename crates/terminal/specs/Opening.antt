@@ -1,0 +1,71 @@
+-- Opening: own commands, and what an opening does. Definitions only. Assumes nothing.
+use mathlib.Core.Bool.{Bool, true, false, cond, _&&_, _||_}
+use Prim.Native.Nat.{ℕ, _%_}
+use lib.Dec.{eqb}
+use Rattle.bits.specs.Bit.{hasBit}
+use Rattle.bus.specs.declared.kind.Kind.{Kind}
+use Rattle.bus.specs.Command.{addressOf, isBroadcast}
+use Rattle.bus.specs.Kind.{kindOf, isIllegal}
+use Rattle.bus.specs.Status.{statusWord, caughtStatus}
+use Rattle.card.specs.Memory.{cellAt}
+use Rattle.card.specs.TableWord.{isBusy, wantsQueue, blockOf}
+use Rattle.terminal.specs.declared.format.Format.{Format}
+use Rattle.terminal.specs.declared.state.Stage.the-variants.{Data, Skipping}
+use Rattle.terminal.specs.declared.state.Second.the-variants.{Absent}
+use Rattle.terminal.specs.declared.state.OpenMessage.{OpenMessage}
+use Rattle.terminal.specs.declared.state.Message.the-variants.{Open}
+use Rattle.terminal.specs.declared.state.Core.{Core}
+use Rattle.terminal.specs.declared.state.Word.{Word}
+use Rattle.terminal.specs.State.{Card, card, withStatus, withLast, withMessage}
+use Rattle.terminal.specs.Format.{formatBy}
+
+-- an own command: sound, command sync, address = station, or 31 with broadcast enabled, flag 0
+unfoldable pub ownCommand : ℕ → ℕ → Word → Bool
+ownCommand station flags word =
+    word .sound && word .sync
+    && (eqb (addressOf (word .value)) station
+    || (isBroadcast (word .value) && eqb (flags % 2) 1))
+
+-- busy: flag 1 or, with a block, the table word's bit 15
+abbrev pub busyAt : Format → ℕ → ℕ → Bool
+busyAt format flags entry = hasBit flags 2 || (format .block && isBusy entry)
+
+-- the message that a word opens: `entry` is its chain's table word. Busy, block and bit 14 are fixed
+unfoldable pub openedMessage : Kind → Format → ℕ → Word → Core → OpenMessage
+openedMessage kind format entry word core =
+    record {
+      command = word .value;
+      line = word .line;
+      block = cond (format .block) (blockOf entry) 0;
+      home = core .table;
+      moved = false;
+      busy = busyAt format (core .flags) entry;
+      queued = format .block && wantsQueue entry;
+      opened = word .time;
+      taken = 0;
+      second = Absent;
+      stage = cond (isIllegal kind) Skipping Data;
+    }
+
+-- a legal code 2 keeps remembered status, a legal code 18 also last command; any other opening sets
+-- last command, and remembered status from caught bits
+unfoldable pub openedStatus : Kind → Format → ℕ → Word → Core → ℕ
+openedStatus kind format entry word core =
+    cond (format .fresh)
+    (statusWord (caughtStatus (core .station) kind (word .value) (core .flags)
+    (busyAt format (core .flags) entry) (core .inhibit)))
+    (core .status)
+
+unfoldable pub openedCore : Kind → Format → ℕ → Word → Core → Core
+openedCore kind format entry word core =
+    withMessage (Open (openedMessage kind format entry word core))
+    (withLast (cond (format .last) (core .last) (word .value))
+    (withStatus (openedStatus kind format entry word core) core))
+
+-- the word opens a message
+unfoldable pub opening : Word → Card → Card
+opening word old =
+    let kind : Kind = kindOf (word .value) in
+    let format : Format = formatBy kind (word .value) in
+    let entry : ℕ = cellAt (old .ram) (old .core .table) (format .cell) in
+    card (openedCore kind format entry word (old .core)) (old .queue) (old .ram)

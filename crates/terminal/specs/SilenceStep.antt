@@ -1,0 +1,42 @@
+-- A silence: what it decides is done. Definitions only. Assumes nothing.
+use mathlib.Core.Bool.{Bool}
+use Prim.Native.Nat.{ℕ}
+use Rattle.terminal.specs.declared.format.Format.{Format}
+use Rattle.terminal.specs.declared.judge.SilenceAct.{SilenceAct}
+use Rattle.terminal.specs.declared.judge.SilenceAct.the-variants.{
+  Ignore,
+  AwaitStatus,
+  Fault,
+  End,
+}
+use Rattle.terminal.specs.declared.state.Stage.the-variants.{AwaitingStatus}
+use Rattle.terminal.specs.declared.state.OpenMessage.{OpenMessage}
+use Rattle.terminal.specs.declared.state.Message.{Message}
+use Rattle.terminal.specs.declared.state.Message.the-variants.{Idle, Open}
+use Rattle.terminal.specs.State.{Card, further}
+use Rattle.terminal.specs.Format.{formatOf}
+use Rattle.terminal.specs.Silence.{onSilence}
+use Rattle.terminal.specs.Closing.{faulted, ended, replyOf}
+use Rattle.terminal.specs.Event.{Outcome, replied, none, quietly, goesOn}
+
+unfoldable pub silenceDone : SilenceAct → Format → OpenMessage → ℕ → Card → Outcome
+silenceDone Ignore format message time old = quietly old
+silenceDone AwaitStatus format message time old =
+    goesOn (further AwaitingStatus (message .second) (message .taken) message) old
+silenceDone (Fault code) format message time old = quietly (faulted format code time message old)
+silenceDone End format message time old =
+    record {
+      card = ended format time message old;
+      answer = replied (replyOf format (old .core) message);
+      opened = none;
+    }
+
+-- with nothing open, silence does nothing
+abbrev pub silenceMet : Message → Bool → ℕ → Card → Outcome
+silenceMet Idle line time old = quietly old
+silenceMet (Open message) line time old =
+    silenceDone (onSilence (formatOf (message .command)) message line)
+    (formatOf (message .command)) message time old
+
+unfoldable pub silenceStep : Bool → ℕ → Card → Outcome
+silenceStep line time old = silenceMet (old .core .message) line time old

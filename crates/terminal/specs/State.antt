@@ -1,0 +1,170 @@
+-- The terminal's state: a setter for each field, and setup. Definitions only. Assumes nothing.
+use mathlib.Core.Bool.{Bool, true, false}
+use mathlib.Core.List.{List}
+use Prim.Native.Nat.{ℕ, _*_}
+use Rattle.queue.specs.declared.Queue.{Queue}
+use Rattle.queue.specs.Queue.{emptyQueue}
+use Rattle.terminal.specs.declared.state.Shut.{Shut}
+use Rattle.terminal.specs.declared.state.Stage.{Stage}
+use Rattle.terminal.specs.declared.state.Second.{Second}
+use Rattle.terminal.specs.declared.state.Second.the-variants.{Absent, Command}
+use Rattle.terminal.specs.declared.state.OpenMessage.{OpenMessage}
+use Rattle.terminal.specs.declared.state.Message.{Message}
+use Rattle.terminal.specs.declared.state.Message.the-variants.{Idle, Open}
+use Rattle.terminal.specs.declared.state.Core.{Core}
+use Rattle.terminal.specs.declared.state.Terminal.{Terminal}
+
+-- everything that an event may change: the terminal, by core and queue, and card memory
+pub record Card : Type 0 where
+  pub core : Core
+  pub queue : Queue
+  pub ram : List ℕ
+
+abbrev pub card : Core → Queue → List ℕ → Card
+card core queue ram = record { core = core; queue = queue; ram = ram }
+
+abbrev pub terminal : Core → Queue → Terminal
+terminal core queue = record { core = core; queue = queue }
+
+-- ---- the core with one field set anew
+
+unfoldable pub withTable : ℕ → Core → Core
+withTable table core =
+    record {
+      station = core .station;
+      table = table;
+      flags = core .flags;
+      status = core .status;
+      last = core .last;
+      shut = core .shut;
+      inhibit = core .inhibit;
+      message = core .message;
+    }
+
+unfoldable pub withFlags : ℕ → Core → Core
+withFlags flags core =
+    record {
+      station = core .station;
+      table = core .table;
+      flags = flags;
+      status = core .status;
+      last = core .last;
+      shut = core .shut;
+      inhibit = core .inhibit;
+      message = core .message;
+    }
+
+unfoldable pub withStatus : ℕ → Core → Core
+withStatus status core =
+    record {
+      station = core .station;
+      table = core .table;
+      flags = core .flags;
+      status = status;
+      last = core .last;
+      shut = core .shut;
+      inhibit = core .inhibit;
+      message = core .message;
+    }
+
+unfoldable pub withLast : ℕ → Core → Core
+withLast last core =
+    record {
+      station = core .station;
+      table = core .table;
+      flags = core .flags;
+      status = core .status;
+      last = last;
+      shut = core .shut;
+      inhibit = core .inhibit;
+      message = core .message;
+    }
+
+unfoldable pub withSwitches : Shut → Bool → Core → Core
+withSwitches shut inhibit core =
+    record {
+      station = core .station;
+      table = core .table;
+      flags = core .flags;
+      status = core .status;
+      last = core .last;
+      shut = shut;
+      inhibit = inhibit;
+      message = core .message;
+    }
+
+unfoldable pub withMessage : Message → Core → Core
+withMessage message core =
+    record {
+      station = core .station;
+      table = core .table;
+      flags = core .flags;
+      status = core .status;
+      last = core .last;
+      shut = core .shut;
+      inhibit = core .inhibit;
+      message = message;
+    }
+
+-- ---- the open message, further on
+
+unfoldable pub further : Stage → Second → ℕ → OpenMessage → OpenMessage
+further stage second taken message =
+    record {
+      command = message .command;
+      line = message .line;
+      block = message .block;
+      home = message .home;
+      moved = message .moved;
+      busy = message .busy;
+      queued = message .queued;
+      opened = message .opened;
+      taken = taken;
+      second = second;
+      stage = stage;
+    }
+
+-- the host has set the table block
+unfoldable pub movedMessage : Message → Message
+movedMessage Idle = Idle
+movedMessage (Open message) =
+    Open (record {
+      command = message .command;
+      line = message .line;
+      block = message .block;
+      home = message .home;
+      moved = true;
+      busy = message .busy;
+      queued = message .queued;
+      opened = message .opened;
+      taken = message .taken;
+      second = message .second;
+      stage = message .stage;
+    })
+
+abbrev pub hasSecond : Second → Bool
+hasSecond Absent = false
+hasSecond (Command value) = true
+
+-- 0 where there is none
+abbrev pub secondOf : Second → ℕ
+secondOf Absent = 0
+secondOf (Command value) = value
+
+-- ---- setup: remembered status = station × 2,048; all else zero, nothing open
+
+unfoldable pub coreAtSetup : ℕ → ℕ → ℕ → Core
+coreAtSetup station table flags =
+    record {
+      station = station;
+      table = table;
+      flags = flags;
+      status = station * 2048;
+      last = 0;
+      shut = record { a = false; b = false };
+      inhibit = false;
+      message = Idle;
+    }
+
+unfoldable pub terminalAtSetup : ℕ → ℕ → ℕ → Terminal
+terminalAtSetup station table flags = terminal (coreAtSetup station table flags) emptyQueue

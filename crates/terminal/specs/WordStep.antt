@@ -1,0 +1,58 @@
+-- A word: what rules 1 to 8 decide is done. Definitions only. Assumes nothing.
+use mathlib.Core.Bool.{cond}
+use Rattle.card.specs.Memory.{withCell}
+use Rattle.terminal.specs.declared.format.Format.{Format}
+use Rattle.terminal.specs.declared.judge.WordAct.{WordAct}
+use Rattle.terminal.specs.declared.judge.WordAct.the-variants.{
+  Ignore,
+  Store,
+  Check,
+  TakeSecond,
+  TakeStatus,
+  Fault,
+  Supersede,
+  Drop,
+}
+use Rattle.terminal.specs.declared.state.Stage.the-variants.{Data, SecondCommand}
+use Rattle.terminal.specs.declared.state.Second.the-variants.{Command}
+use Rattle.terminal.specs.declared.state.OpenMessage.{OpenMessage}
+use Rattle.terminal.specs.declared.state.Message.{Message}
+use Rattle.terminal.specs.declared.state.Message.the-variants.{Idle, Open}
+use Rattle.terminal.specs.declared.state.Word.{Word}
+use Rattle.terminal.specs.State.{Card, card, withMessage, further}
+use Rattle.terminal.specs.Format.{formatOf}
+use Rattle.terminal.specs.Opening.{ownCommand}
+use Rattle.terminal.specs.Words.{onWord}
+use Rattle.terminal.specs.Closing.{faulted}
+use Rattle.terminal.specs.Event.{Outcome, quietly, opens, goesOn}
+
+unfoldable pub wordDone : WordAct → Format → OpenMessage → Word → Card → Outcome
+wordDone Ignore format message word old = quietly old
+wordDone (Store taken) format message word old =
+    quietly
+    (card (withMessage (Open (further Data (message .second) taken message)) (old .core))
+    (old .queue)
+    (withCell (old .ram) (message .block) (message .taken) (word .value)))
+wordDone (Check taken) format message word old =
+    goesOn (further Data (message .second) taken message) old
+wordDone (TakeSecond value) format message word old =
+    goesOn (further SecondCommand (Command value) (message .taken) message) old
+wordDone TakeStatus format message word old =
+    goesOn (further Data (message .second) (message .taken) message) old
+wordDone (Fault code) format message word old =
+    quietly (faulted format code (word .time) message old)
+wordDone Supersede format message word old =
+    opens word (faulted format 7 (word .time) message old)
+wordDone Drop format message word old = opens word old
+
+-- with nothing open, any own command opens, joined or not
+abbrev pub wordMet : Message → Word → Card → Outcome
+wordMet Idle word old =
+    cond (ownCommand (old .core .station) (old .core .flags) word) (opens word old) (quietly old)
+wordMet (Open message) word old =
+    wordDone
+    (onWord (old .core .station) (old .core .flags) (formatOf (message .command)) message word)
+    (formatOf (message .command)) message word old
+
+unfoldable pub wordStep : Word → Card → Outcome
+wordStep word old = wordMet (old .core .message) word old
