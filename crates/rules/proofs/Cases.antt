@@ -38,6 +38,9 @@ at-second first second p q = rw (p, q)
 pub neither : (first second : Bool) → first ≡ false → second ≡ false → (first || second) ≡ false
 neither first second p q = rw (p, q)
 
+-- a test that the code turned round: `if !test { return; }`
+pub ruleset turned = (not-true, not-false)
+
 -- ---- a test that a call answered
 
 pub told : (answer test : Bool) (outcome : Bool)

@@ -1,7 +1,7 @@
 -- Closing, faults, and the sound end. Definitions only. Assumes nothing.
 use mathlib.Core.Bool.{Bool, true, false, cond, not, _&&_, _||_}
 use mathlib.Core.List.{List}
-use Prim.Native.Nat.{ℕ, _+_}
+use Prim.Native.Nat.{ℕ}
 use lib.Dec.{eqb}
 use Rattle.bus.specs.Command.{isBroadcast}
 use Rattle.bus.specs.Status.{withError}
@@ -113,7 +113,8 @@ switched code line core =
 -- the data words stored, or held by the reply given
 unfoldable pub endWords : Format → Core → OpenMessage → ℕ
 endWords format core message =
-    unlessBusy format message (message .taken + cond (replies core message) (format .sends) 0)
+    unlessBusy format message
+    (cond (eqb (format .takes) 0) (cond (replies core message) (format .sends) 0) (message .taken))
 
 unfoldable pub ended : Format → ℕ → OpenMessage → Card → Card
 ended format time message old =

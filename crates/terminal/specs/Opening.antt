@@ -1,5 +1,6 @@
 -- Opening: own commands, and what an opening does. Definitions only. Assumes nothing.
 use mathlib.Core.Bool.{Bool, true, false, cond, _&&_, _||_}
+use mathlib.Core.List.{List}
 use Prim.Native.Nat.{ℕ, _%_}
 use lib.Dec.{eqb}
 use Rattle.bits.specs.Bit.{hasBit}
@@ -62,10 +63,13 @@ openedCore kind format entry word core =
     (withLast (cond (format .last) (core .last) (word .value))
     (withStatus (openedStatus kind format entry word core) core))
 
--- the word opens a message
-unfoldable pub opening : Word → Card → Card
-opening word old =
+-- the word opens a message: the core after it, over the memory that it reads its chain's entry from
+abbrev pub openedAt : Word → Core → List ℕ → Core
+openedAt word core ram =
     let kind : Kind = kindOf (word .value) in
     let format : Format = formatBy kind (word .value) in
-    let entry : ℕ = cellAt (old .ram) (old .core .table) (format .cell) in
-    card (openedCore kind format entry word (old .core)) (old .queue) (old .ram)
+    let entry : ℕ = cellAt ram (core .table) (format .cell) in
+    openedCore kind format entry word core
+
+unfoldable pub opening : Word → Card → Card
+opening word old = card (openedAt word (old .core) (old .ram)) (old .queue) (old .ram)

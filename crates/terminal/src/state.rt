@@ -1,5 +1,6 @@
 // What the terminal holds. Every action takes it by value and hands it back.
 use queue::Queue;
+use queue::Ring;
 
 // The lines that are shut.
 pub struct Shut {
@@ -68,6 +69,12 @@ pub struct Core {
 pub struct Terminal {
     pub core: Core,
     pub queue: Queue,
+}
+
+// What a run carries by value from field to field. The queue's places and the RAM are lent.
+pub struct Held {
+    pub core: Core,
+    pub ring: Ring,
 }
 
 // A word from the bus, decoded.

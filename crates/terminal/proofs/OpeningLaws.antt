@@ -1,0 +1,55 @@
+-- The laws of `specs/Opening.antt`, as the code puts an opening together. Assumes nothing.
+use mathlib.Core.Path.{_≡_, refl, sym, ap, _∙_}
+use mathlib.Core.Bool.{Bool, true, false, cond, not, _&&_}
+use mathlib.Core.List.{List}
+use Prim.Native.Nat.{ℕ}
+use borrow.Author.Tests.{not-true, not-false}
+use Rattle.bus.specs.declared.kind.Kind.{Kind}
+use Rattle.bus.specs.declared.status.Status.{Status}
+use Rattle.bus.specs.Kind.{kindOf}
+use Rattle.bus.specs.Status.{statusWord, caughtStatus}
+use Rattle.card.specs.declared.place.Block.{Block}
+use Rattle.card.specs.Memory.{cellAt}
+use Rattle.card.specs.TableWord.{blockOf}
+use Rattle.terminal.specs.declared.format.Format.{Format}
+use Rattle.terminal.specs.declared.state.Word.{Word}
+use Rattle.terminal.specs.declared.state.Core.{Core}
+use Rattle.terminal.specs.Format.{formatBy}
+use Rattle.terminal.specs.Opening.{busyAt, openedStatus, openedCore, openedAt}
+
+-- ---- the block
+
+module _ (named : Block) (entry : ℕ) (has : Bool) (is : named ≡ record { 0 = blockOf entry }) where
+  pub block-named : has ≡ true → named .0 ≡ cond has (blockOf entry) 0
+  block-named yes-block = rw (yes-block, is)
+
+-- ---- the status
+
+module _ (kind : Kind) (format : Format) (entry : ℕ) (word : Word) (core : Core) where
+  pub status-kept : not (format .fresh) ≡ true
+      → core .status ≡ openedStatus kind format entry word core
+  unfolding openedStatus
+  status-kept keeps = rw (not-true (format .fresh) keeps)
+
+  pub status-made : (busy : Bool) (status : Status) (made : ℕ) → not (format .fresh) ≡ false
+      → busy ≡ busyAt format (core .flags) entry
+      → status
+      ≡ caughtStatus (core .station) kind (word .value) (core .flags) busy (core .inhibit)
+      → made ≡ statusWord status
+      → made ≡ openedStatus kind format entry word core
+  unfolding openedStatus
+  status-made busy status made anew is-busy is-status is-made =
+      rw (not-false (format .fresh) anew, ← is-busy, ← is-status) is-made
+
+pub ruleset statuses = (status-kept, status-made)
+
+-- ---- all together
+
+module _ (word : Word) (core : Core) (ram : List ℕ) where
+  pub opened-is : (kind : Kind) (format : Format) (entry : ℕ) (new : Core)
+      → kind ≡ kindOf (word .value) → format ≡ formatBy kind (word .value)
+      → entry ≡ cellAt ram (core .table) (format .cell)
+      → new ≡ openedCore kind format entry word core
+      → new ≡ openedAt word core ram
+  opened-is kind format entry new is-kind is-format is-entry is-new =
+      rw (← is-kind, ← is-format, ← is-entry) is-new

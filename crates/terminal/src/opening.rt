@@ -1,0 +1,123 @@
+// Opening: what a command makes of the terminal.
+ghost use mathlib.Core.Path.{_≡_};
+ghost use mathlib.Core.Bool.{cond};
+ghost use Rattle.terminal.specs.declared.state.Stage.the-variants.{Data, Skipping};
+ghost use Rattle.card.specs.TableWord.{blockOf};
+ghost use Rattle.terminal.specs.Opening.{busyAt, openedMessage, openedStatus, openedCore, openedAt};
+use bus::kind;
+use bus::kind::Kind;
+use bus::status::Status;
+use card::memory;
+use card::place::{Block, Cell};
+use card::table;
+use crate::format;
+use crate::format::Format;
+use crate::state::{Core, Message, OpenMessage, Second, Stage, Word};
+
+// Busy: flag 1 or, with a block, the table word's bit 15.
+fn busy_at(format: Format, flags: u16, entry: u16) -> bool
+    ensures { λ busy. ⌜ busy ≡ busyAt format flags entry ⌝ }
+{
+    let marked = table::is_busy(entry);
+    (flags / 2 % 2 == 1) | (format.block & marked)
+}
+
+// A message without a block has number 0 in its place.
+fn block_at(format: Format, entry: u16) -> u16
+    ensures { λ block. ⌜ block ≡ cond (format .block) (blockOf entry) 0 ⌝ }
+{
+    let named = table::block_of(entry);
+    let has = format.block;
+    if has { named.0 } else { 0 }
+}
+
+// Illegal commands are skipped.
+fn stage_at(illegal: bool) -> Stage
+    ensures { λ stage. ⌜ stage ≡ cond illegal Skipping Data ⌝ }
+{
+    if illegal { Stage::Skipping } else { Stage::Data }
+}
+
+// The message that a word opens, with what the opening fixes.
+fn opened_message(
+    kind: Kind,
+    format: Format,
+    entry: u16,
+    word: Word,
+    core: Core,
+) -> OpenMessage
+    ensures { λ message. ⌜ message ≡ openedMessage kind format entry word core ⌝ }
+{
+    let block = block_at(format, entry);
+    let busy = busy_at(format, core.flags, entry);
+    let wanted = table::wants_queue(entry);
+    let illegal = kind.is_illegal();
+    let stage = stage_at(illegal);
+    let second = Second::Absent;
+    OpenMessage {
+        command: word.value,
+        line: word.line,
+        block: block,
+        home: core.table,
+        moved: false,
+        busy: busy,
+        queued: format.block & wanted,
+        opened: word.time,
+        taken: 0,
+        second: second,
+        stage: stage,
+    }
+}
+
+// A legal code 2 or 18 keeps the remembered status.
+fn opened_status(kind: Kind, format: Format, entry: u16, word: Word, core: Core) -> u16
+    ensures { λ status. ⌜ status ≡ openedStatus kind format entry word core ⌝ }
+{
+    let fresh = format.fresh;
+    if !fresh {
+        return core.status;
+    }
+    let busy = busy_at(format, core.flags, entry);
+    let status = Status::caught(core.station, kind, word.value, core.flags, busy, core.inhibit);
+    status.word()
+}
+
+// A legal code 18 keeps the last command.
+fn opened_last(format: Format, last: u16, command: u16) -> u16
+    ensures { λ now. ⌜ now ≡ cond (format .last) last command ⌝ }
+{
+    let keeps = format.last;
+    if keeps { last } else { command }
+}
+
+fn opened_core(kind: Kind, format: Format, entry: u16, word: Word, core: Core) -> Core
+    ensures { λ opened. ⌜ opened ≡ openedCore kind format entry word core ⌝ }
+{
+    let message = opened_message(kind, format, entry, word, core);
+    let status = opened_status(kind, format, entry, word, core);
+    let last = opened_last(format, core.last, word.value);
+    let shut = core.shut;
+    let held = Message::Open(message);
+    Core {
+        station: core.station,
+        table: core.table,
+        flags: core.flags,
+        status: status,
+        last: last,
+        shut: shut,
+        inhibit: core.inhibit,
+        message: held,
+    }
+}
+
+impl Core {
+    // The word opens a message: its chain's entry is read from the table.
+    pub fn open(self, ram: &[u16], word: Word) -> Core
+        ensures { λ opened. ⌜ opened ≡ openedAt word self (now (ram .entry)) ⌝ }
+    {
+        let kind = kind::kind_of(word.value);
+        let format = format::format_by(kind, word.value);
+        let entry = memory::read_cell(ram, Block(self.table), Cell(format.cell));
+        opened_core(kind, format, entry, word, self)
+    }
+}
