@@ -3,12 +3,20 @@ use mathlib.Core.Path.{_≡_}
 use mathlib.Core.Bool.{Bool, true, false, cond, not}
 use mathlib.Core.List.{List}
 use Prim.Native.Nat.{ℕ}
-use borrow.Author.Tests.{not-true, not-false}
+use lib.Dec.{eqb}
+use borrow.Author.Tests.{eq-eqb, ne-eqb, not-true, not-false}
+use Rattle.bus.specs.Status.{withError}
 use Rattle.card.specs.Memory.{withService, withLink}
 use Rattle.card.specs.Time.{ticksOf}
+use Rattle.queue.specs.declared.Queue.{Queue}
 use Rattle.terminal.specs.declared.format.Format.{Format}
 use Rattle.terminal.specs.declared.state.OpenMessage.{OpenMessage}
-use Rattle.terminal.specs.Closing.{closedRam}
+use Rattle.terminal.specs.declared.state.Core.{Core}
+use Rattle.terminal.specs.declared.state.Reply.the-variants.{Silent, Status, Words, Last}
+use Rattle.terminal.specs.State.{Card, card, withStatus}
+use Rattle.terminal.specs.Closing.{
+    unlessBusy, stateOf, closedRam, closing, faulted, replies, replyOf, switched, endWords, ended
+}
 
 -- ---- memory, on each way
 
@@ -33,3 +41,63 @@ module _ (format : Format) (state time : ℕ) (message : OpenMessage) (ram : Lis
         rw (not-false (format .block) has, stays, ← is-ticks, ← is-served) is-new
 
 pub ruleset rams = (ram-without-block, ram-after-a-move, ram-with-link)
+
+-- ---- the reply
+
+module _ (format : Format) (core : Core) (message : OpenMessage) (given : Bool)
+    (is-given : given ≡ replies core message) where
+  pub reply-silent : not given ≡ true → Silent ≡ replyOf format core message
+  unfolding replyOf
+  reply-silent none = rw (← is-given, none)
+
+  module _ (some : not given ≡ false) where
+    pub reply-last : format .last ≡ true
+        → Last (core .status) (core .last) ≡ replyOf format core message
+    unfolding replyOf
+    reply-last last = rw (← is-given, some, last)
+
+    module _ (other : format .last ≡ false) (sends : ℕ)
+        (is-sends : sends ≡ unlessBusy format message (format .sends)) where
+      pub reply-status : sends ≡ 0 → Status (core .status) ≡ replyOf format core message
+      unfolding replyOf
+      reply-status none = rw (← is-given, some, other, ← is-sends, eq-eqb sends 0 none)
+
+      pub reply-words : (sends ≡ 0 → ⊥)
+          → Words (core .status) (message .block) (format .sends) ≡ replyOf format core message
+      unfolding replyOf
+      reply-words many = rw (← is-given, some, other, ← is-sends, ne-eqb sends 0 many)
+
+pub ruleset replying = (reply-silent, reply-last, reply-status, reply-words)
+
+-- ---- the words of the state word
+
+pub end-words-are : (format : Format) (core : Core) (message : OpenMessage) (given : Bool)
+    (moved words : ℕ) → given ≡ replies core message
+    → moved ≡ cond (eqb (format .takes) 0) (cond given (format .sends) 0) (message .taken)
+    → words ≡ unlessBusy format message moved
+    → words ≡ endWords format core message
+unfolding endWords
+end-words-are format core message given moved words is-given is-moved is-words =
+    rw (← is-given, ← is-moved) is-words
+
+-- ---- a fault, and the sound end
+
+module _ (format : Format) (time : ℕ) (message : OpenMessage) (old : Core) (queue : Queue)
+    (ram : List ℕ) (words state : ℕ) (core : Core) (new : Card) where
+  pub fault-is : (code marked : ℕ) → words ≡ unlessBusy format message (message .taken)
+      → state ≡ stateOf code words message
+      → marked ≡ withError (old .status)
+      → core ≡ withStatus marked old
+      → new ≡ closing format state time message (card core queue ram)
+      → new ≡ faulted format code time message (card old queue ram)
+  unfolding faulted
+  fault-is code marked is-words is-state is-marked is-core is-new =
+      rw (← is-words, ← is-state, ← is-marked, ← is-core) is-new
+
+  pub end-is : words ≡ endWords format old message
+      → state ≡ stateOf 0 words message
+      → core ≡ switched (format .switch) (message .line) old
+      → new ≡ closing format state time message (card core queue ram)
+      → new ≡ ended format time message (card old queue ram)
+  unfolding ended
+  end-is is-words is-state is-core is-new = rw (← is-words, ← is-state, ← is-core) is-new

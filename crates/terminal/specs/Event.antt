@@ -37,6 +37,17 @@ pub record Outcome : Type 0 where
   pub answer : Answer
   pub opened : Opened
 
+-- what is seen of an outcome: the card and the answer
+pub record Shown : Type 0 where
+  pub card : Card
+  pub answer : Answer
+
+abbrev pub shown : Card → Answer → Shown
+shown new answer = record { card = new; answer = answer }
+
+abbrev pub seen : Outcome → Shown
+seen outcome = shown (outcome .card) (outcome .answer)
+
 -- nothing comes back and nothing opens
 abbrev pub quietly : Card → Outcome
 quietly new = record { card = new; answer = replied Silent; opened = none }

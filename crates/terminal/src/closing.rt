@@ -1,6 +1,6 @@
 // Closing a message: by a fault, or by its sound end.
 ghost use mathlib.Core.Path.{_≡_};
-ghost use mathlib.Core.Bool.{cond};
+ghost use mathlib.Core.Bool.{cond, true, false};
 ghost use lib.Dec.{eqb};
 ghost use Rattle.queue.specs.Queue.{queue};
 ghost use Rattle.terminal.specs.declared.state.Message.the-variants.{Idle};
@@ -126,4 +126,148 @@ impl Core {
             ring: joined,
         }
     }
+    // A fault closes silently and sets message error.
+    pub fn fault(
+        self,
+        ring: Ring,
+        places: &mut [u16; 256],
+        ram: &mut [u16],
+        format: Format,
+        code: u16,
+        time: u32,
+        message: OpenMessage,
+    ) -> Held
+        ensures { λ held. ⌜ card (held .core) (queue (now (places .exit)) (held .ring)) (now (ram .exit))
+            ≡ faulted format code time message
+            (card self (queue (now (places .entry)) ring) (now (ram .entry))) ⌝ }
+    {
+        let words = unless_busy(format, message, message.taken);
+        let state = state_of(code, words, message);
+        let marked = status::with_error(self.status);
+        let core = self.with_status(marked);
+        core.close(ring, places, ram, format, state, time, message)
+    }
+
+    // A reply is given unless the message was broadcast or its line is shut.
+    fn replies(self, message: OpenMessage) -> bool
+        ensures { λ given. ⌜ given ≡ replies self message ⌝ }
+    {
+        let broadcast = command::is_broadcast(message.command);
+        let lines = self.shut;
+        let shut = is_shut(lines, message.line);
+        !broadcast & !shut
+    }
+
+    // The sound end's reply: status, then words sent.
+    pub fn reply(self, format: Format, message: OpenMessage) -> Reply
+        ensures { λ reply. ⌜ reply ≡ replyOf format self message ⌝ }
+    {
+        let given = self.replies(message);
+        let sends = unless_busy(format, message, format.sends);
+        let last = format.last;
+        if !given {
+            return Reply::Silent;
+        }
+        if last {
+            return Reply::Last {
+                status: self.status,
+                command: self.last,
+            };
+        }
+        if sends == 0 {
+            return Reply::Status(self.status);
+        }
+        Reply::Words {
+            status: self.status,
+            block: message.block,
+            count: format.sends,
+        }
+    }
+
+    // What codes 4 to 8 do to shut lines and inhibit.
+    fn switch(mut self, code: u16, line: bool) -> Core
+        ensures { λ core. ⌜ core ≡ switched code line self ⌝ }
+    {
+        let lines = self.shut;
+        let shut = switched_shut(code, line, lines);
+        self.inhibit = switched_inhibit(code, self.inhibit);
+        self.shut = shut;
+        self
+    }
+
+    // The data words stored, or held by the reply given.
+    fn end_words(self, format: Format, message: OpenMessage) -> u16
+        ensures { λ words. ⌜ words ≡ endWords format self message ⌝ }
+    {
+        let given = self.replies(message);
+        let moved = moved_words(format, given, message.taken);
+        unless_busy(format, message, moved)
+    }
+
+    // The message ends sound.
+    pub fn end(
+        self,
+        ring: Ring,
+        places: &mut [u16; 256],
+        ram: &mut [u16],
+        format: Format,
+        time: u32,
+        message: OpenMessage,
+    ) -> Held
+        ensures { λ held. ⌜ card (held .core) (queue (now (places .exit)) (held .ring)) (now (ram .exit))
+            ≡ ended format time message
+            (card self (queue (now (places .entry)) ring) (now (ram .entry))) ⌝ }
+    {
+        let words = self.end_words(format, message);
+        let state = state_of(0, words, message);
+        let core = self.switch(format.switch, message.line);
+        core.close(ring, places, ram, format, state, time, message)
+    }
+}
+
+fn is_shut(shut: Shut, line: bool) -> bool
+    ensures { λ kept. ⌜ kept ≡ cond line (shut .b) (shut .a) ⌝ }
+{
+    if line { shut.b } else { shut.a }
+}
+
+// What takes words has stored them; what sends has sent them where a reply was given.
+fn moved_words(format: Format, given: bool, taken: u16) -> u16
+    ensures { λ words. ⌜ words ≡ cond (eqb (format .takes) 0) (cond given (format .sends) 0) taken ⌝ }
+{
+    if format.takes == 0 {
+        if given {
+            return format.sends;
+        }
+        return 0;
+    }
+    taken
+}
+
+// 4 shuts and 5 opens the other line; 8 opens both.
+fn switched_line(opens: bool, shuts: bool, shut: bool) -> bool
+    ensures { λ now. ⌜ now ≡ cond opens false (cond shuts true shut) ⌝ }
+{
+    if opens {
+        return false;
+    }
+    if shuts {
+        return true;
+    }
+    shut
+}
+
+fn switched_shut(code: u16, line: bool, shut: Shut) -> Shut
+    ensures { λ now. ⌜ now ≡ switchedShut code line shut ⌝ }
+{
+    let a = switched_line((code == 8) | ((code == 5) & line), (code == 4) & line, shut.a);
+    let b = switched_line((code == 8) | ((code == 5) & !line), (code == 4) & !line, shut.b);
+    Shut { a: a, b: b }
+}
+
+// 6 sets and 7 clears inhibit; 8 clears it too.
+fn switched_inhibit(code: u16, inhibit: bool) -> bool
+    ensures { λ now. ⌜ now ≡ switchedInhibit code inhibit ⌝ }
+{
+    switched_line((code == 8) | (code == 7), code == 6, inhibit)
 }

@@ -4,5 +4,6 @@
 mod closing;
 mod format;
 mod judge;
+mod machine;
 mod opening;
 pub mod state;

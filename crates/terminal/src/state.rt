@@ -97,3 +97,9 @@ pub enum Reply {
     Words { status: u16, block: u16, count: u16 },
     Last { status: u16, command: u16 },
 }
+
+// What a silence brings: what is held after it, and the reply.
+pub struct Heard {
+    pub held: Held,
+    pub reply: Reply,
+}

@@ -1,0 +1,47 @@
+-- `terminal::Core::silence` meets its contract: nothing open, or a message that a silence meets.
+-- Assumes nothing.
+use borrow.Author.Needs.{needs}
+use Rattle.terminal.proofs.StepLaws.{silence-meeting}
+use Rattle.terminal.proofs.state.Core.silence.Statement.{statement}
+use Rattle.terminal.proofs.state.Core.silence.Tie as tie
+
+enum-told : tie.Need-enum-told
+enum-told c = search needs
+
+enum-known-message : tie.Need-enum-known-message
+enum-known-message c = search needs
+
+kind-of-requires : tie.Need-kind-of-requires
+kind-of-requires c κs = search needs
+
+format-by-requires : tie.Need-format-by-requires
+format-by-requires c κs = search needs
+
+on-silence-requires : tie.Need-on-silence-requires
+on-silence-requires c κs = search needs
+
+silence-done-requires : tie.Need-silence-done-requires
+silence-done-requires c κs = search needs
+
+returns : tie.Need-returns
+returns c = search (needs, silence-meeting) depth 9
+
+same-length : tie.Need-same-length
+same-length c = search needs
+
+returns-2 : tie.Need-returns-2
+returns-2 c = search (needs, silence-meeting) depth 9
+
+pub silence-spec : {M : Type 1} → statement M
+silence-spec =
+    tie.close
+    (tie.spec
+    enum-told
+    enum-known-message
+    kind-of-requires
+    format-by-requires
+    on-silence-requires
+    silence-done-requires
+    returns
+    same-length
+    returns-2)
