@@ -38,8 +38,16 @@ at-second first second p q = rw (p, q)
 pub neither : (first second : Bool) → first ≡ false → second ≡ false → (first || second) ≡ false
 neither first second p q = rw (p, q)
 
--- a test that the code turned round: `if !test { return; }`
-pub ruleset turned = (not-true, not-false)
+-- ---- a test turned round
+
+pub not-holds : (test : Bool) → test ≡ false → not test ≡ true
+not-holds test p = rw p
+
+pub not-fails : (test : Bool) → test ≡ true → not test ≡ false
+not-fails test p = rw p
+
+-- `if !test { return; }` in the code, or `not test` in the definition
+pub ruleset turned = (not-true, not-false, not-holds, not-fails)
 
 -- ---- a test that a call answered
 

@@ -1,9 +1,11 @@
 -- The rules that every crate's proofs cite, on plain lists, numbers and contracts.
 --     Cases         which way a definition that goes by tests takes, for `search`
+--     Halves        what a test made of two tells of each of them
 --     LentPart      what a store to a lent part is to the whole
 --     Determined    what it means that a contract allows one outcome alone
 --     Tabulated     a table whose rule is computed once
 pub mod Cases
+pub mod Halves
 pub mod LentPart
 pub mod Determined
 pub mod Tabulated

@@ -1,11 +1,25 @@
--- The mathematics of the terminal.
+-- The mathematics of the terminal. Read `FitLaws` first: a fit state stays fit.
 --     FormatLaws    the rows of the format table that read the command
 --     JudgeLaws     how the code comes to each decision on a word or a silence
 --     OpeningLaws   how the code puts an opening together
 --     ClosingLaws   how the code puts a closing together
 --     StepLaws      how the code does what was decided
+--     ActionLaws    how the code judges, refuses and answers
+--     FitParts      what refusal 4 asks of a state, part by part
+--     FitMessage    an open message is fit when it opens, and further on
+--     FitChanges    going on, opening and closing keep the card fit
+--     FitWord       a word keeps the card fit, whatever it decides
+--     FitSilence    a silence keeps the card fit
+--     FitLaws       a fit state stays fit: setup, one event, and a run
 pub mod FormatLaws
 pub mod JudgeLaws
 pub mod OpeningLaws
 pub mod ClosingLaws
 pub mod StepLaws
+pub mod ActionLaws
+pub mod FitParts
+pub mod FitMessage
+pub mod FitChanges
+pub mod FitWord
+pub mod FitSilence
+pub mod FitLaws

@@ -7,6 +7,7 @@ use lib.Dec.{eqb, leb, ltb}
 use lib.ListN.{length}
 use Rattle.bits.specs.Bit.{hasBit}
 use Rattle.card.specs.Memory.{cardWords}
+use Rattle.terminal.specs.declared.actions.Done.{Done}
 use Rattle.terminal.specs.declared.state.Terminal.{Terminal}
 use Rattle.terminal.specs.declared.state.Word.{Word}
 use Rattle.terminal.specs.declared.state.Reply.the-variants.{Silent}
@@ -52,7 +53,7 @@ abbrev pub fitCard : Card → Bool
 fitCard old = fitTerminal (terminal (old .core) (old .queue))
 
 -- 1, then 4, then the action's own number where its input is not in order
-abbrev pub withMemory : Bool → ℕ → Event → Card → After
+unfoldable pub withMemory : Bool → ℕ → Event → Card → After
 withMemory inOrder number event old =
     cond (not (wholeCard old)) (after 1 (replied Silent) old)
     (cond (not (fitCard old)) (after 4 (replied Silent) old)
@@ -60,7 +61,7 @@ withMemory inOrder number event old =
     (took (step event old))))
 
 -- 4, then the action's own number where its input is not in order
-abbrev pub withoutMemory : Bool → ℕ → Answer → Event → Card → After
+unfoldable pub withoutMemory : Bool → ℕ → Answer → Event → Card → After
 withoutMemory inOrder number refused event old =
     cond (not (fitCard old)) (after 4 refused old)
     (cond (not inOrder) (after number refused old)
@@ -108,10 +109,13 @@ setFlagsAction flags = withoutMemory (leb flags 63) 8 (replied Silent) (flagsWri
 abbrev pub noTerminal : Terminal
 noTerminal = terminalAtSetup 31 0 0
 
-unfoldable pub setupRefusal : ℕ → ℕ → ℕ → ℕ
-setupRefusal station table flags =
-    cond (not (leb station 30)) 2 (cond (not (leb table 255)) 3 (cond (not (leb flags 63)) 8 0))
+abbrev pub settled : ℕ → Terminal → Done
+settled refusal given = record { refusal = refusal; terminal = given }
 
-unfoldable pub setupTerminal : ℕ → ℕ → ℕ → Terminal
-setupTerminal station table flags =
-    cond (eqb (setupRefusal station table flags) 0) (terminalAtSetup station table flags) noTerminal
+-- 2 station above 30, 3 table block above 255, 8 flags above 63
+unfoldable pub setupAction : ℕ → ℕ → ℕ → Done
+setupAction station table flags =
+    cond (not (leb station 30)) (settled 2 noTerminal)
+    (cond (not (leb table 255)) (settled 3 noTerminal)
+    (cond (not (leb flags 63)) (settled 8 noTerminal)
+    (settled 0 (terminalAtSetup station table flags))))

@@ -1,7 +1,7 @@
 -- The terminal's state: a setter for each field, and setup. Definitions only. Assumes nothing.
 use mathlib.Core.Bool.{Bool, true, false}
 use mathlib.Core.List.{List}
-use Prim.Native.Nat.{ℕ, _*_}
+use Prim.Native.Nat.{ℕ, _*_, _%_}
 use Rattle.queue.specs.declared.Queue.{Queue}
 use Rattle.queue.specs.Queue.{emptyQueue}
 use Rattle.terminal.specs.declared.state.Shut.{Shut}
@@ -151,7 +151,8 @@ abbrev pub secondOf : Second → ℕ
 secondOf Absent = 0
 secondOf (Command value) = value
 
--- ---- setup: remembered status = station × 2,048; all else zero, nothing open
+-- ---- setup: remembered status = station × 2,048 (a station has five bits); all else zero, nothing
+-- open
 
 unfoldable pub coreAtSetup : ℕ → ℕ → ℕ → Core
 coreAtSetup station table flags =
@@ -159,7 +160,7 @@ coreAtSetup station table flags =
       station = station;
       table = table;
       flags = flags;
-      status = station * 2048;
+      status = station % 32 * 2048;
       last = 0;
       shut = record { a = false; b = false };
       inhibit = false;

@@ -1,0 +1,219 @@
+-- The laws of `specs/Actions.antt`, as the code judges and answers. Assumes nothing.
+use mathlib.Core.Path.{_≡_, refl, sym, ap, _∙_}
+use mathlib.Core.Bool.{Bool, true, false, cond, not, _&&_}
+use mathlib.Core.List.{List, []}
+use Prim.Native.Nat.{ℕ, _+_}
+use lib.Dec.{leb}
+use lib.ListN.{length}
+use lib.Seq.{sets}
+use borrow.Author.Tests.{eq-eqb, ne-eqb, not-true, not-false}
+use Rattle.card.specs.Memory.{cardWords}
+use Rattle.card.specs.Host as host
+use Rattle.queue.specs.declared.QueueRead.{QueueRead}
+use Rattle.queue.specs.Queue.{readOf}
+use Rattle.terminal.specs.declared.judge.WordAct.{WordAct}
+use Rattle.terminal.specs.declared.judge.WordAct.the-variants.{
+    Ignore, Store, Check, TakeSecond, TakeStatus, Fault, Supersede, Drop
+}
+use Rattle.terminal.specs.declared.format.Format.{Format}
+use Rattle.terminal.specs.declared.state.OpenMessage.{OpenMessage}
+use Rattle.terminal.specs.declared.state.Message.{Message}
+use Rattle.terminal.specs.declared.state.Message.the-variants.{Idle, Open}
+use Rattle.terminal.specs.declared.state.Core.{Core}
+use Rattle.terminal.specs.declared.state.Terminal.{Terminal}
+use Rattle.terminal.specs.declared.state.Word.{Word}
+use Rattle.terminal.specs.declared.state.Reply.{Reply}
+use Rattle.terminal.specs.declared.state.Reply.the-variants.{Silent}
+use Rattle.terminal.specs.State.{
+    Card, card, withTable, withFlags, withMessage, movedMessage
+}
+use Rattle.terminal.specs.Opening.{ownCommand}
+use Rattle.terminal.specs.Words.{onWord}
+use Rattle.terminal.specs.Event.{
+    Event, word, silence, hostWrite, tableMove, flagsWrite, Answer, replied, queueWord, Outcome,
+    Shown, shown, seen, opens, quietly
+}
+use Rattle.terminal.specs.WordStep.{wordDone, wordMet, wordStep}
+use Rattle.terminal.specs.SilenceStep.{silenceStep}
+use Rattle.terminal.specs.Machine.{
+    step, queueReadStep, hostWriteStep, tableMoveStep, flagsWriteStep
+}
+use Rattle.terminal.specs.Fitness.{fitOpen, fitMessage, fitTerminal}
+use Rattle.terminal.specs.Actions.{
+    After, after, took, alone, wordOf, withMemory, withoutMemory, readQueueAction, settled
+}
+
+-- ---- fitness of a message, where one is open
+
+pub open-is-fit : (message : Message) (held : OpenMessage) (station : ℕ) (fit : Bool)
+    → message ≡ Open held → fit ≡ fitOpen station held → fit ≡ fitMessage message station
+open-is-fit message held station fit is same = rw is same
+
+-- ---- a word brings no reply
+
+word-done-silent : (act : WordAct) (format : Format) (message : OpenMessage) (heard : Word) (old : Card)
+    → wordDone act format message heard old .answer ≡ replied Silent
+unfolding wordDone
+word-done-silent Ignore format message heard old = refl
+word-done-silent (Store taken) format message heard old = refl
+word-done-silent (Check taken) format message heard old = refl
+word-done-silent (TakeSecond value) format message heard old = refl
+word-done-silent TakeStatus format message heard old = refl
+word-done-silent (Fault code) format message heard old = refl
+word-done-silent Supersede format message heard old = refl
+word-done-silent Drop format message heard old = refl
+
+word-met-silent : (message : Message) (heard : Word) (old : Card)
+    → wordMet message heard old .answer ≡ replied Silent
+word-met-silent Idle heard old = go (ownCommand (old .core .station) (old .core .flags) heard)
+  where
+    go : (own : Bool) → cond own (opens heard old) (quietly old) .answer ≡ replied Silent
+    go true = refl
+    go false = refl
+word-met-silent (Open message) heard old = word-done-silent _ _ message heard old
+
+pub words-are-silent : (heard : Word) (old : Card) → wordStep heard old .answer ≡ replied Silent
+unfolding wordStep
+words-are-silent heard old = word-met-silent (old .core .message) heard old
+
+-- ---- actions over memory
+
+module _ (given : Terminal) (ram : List ℕ) where
+  abbrev over-memory : Card
+  over-memory = card (given .core) (given .queue) ram
+
+  module _ (inOrder : Bool) (number : ℕ) (event : Event) where
+    pub refused-1 : (length ram ≡ cardWords → ⊥)
+        → after 1 (replied Silent) over-memory ≡ withMemory inOrder number event over-memory
+    unfolding withMemory
+    refused-1 other = rw (ne-eqb (length ram) cardWords other)
+
+    module _ (fit : Bool) (whole : length ram ≡ cardWords) (is-fit : fit ≡ fitTerminal given) where
+      pub refused-4 : not fit ≡ true
+          → after 4 (replied Silent) over-memory ≡ withMemory inOrder number event over-memory
+      unfolding withMemory
+      refused-4 unfit = rw (eq-eqb (length ram) cardWords whole, ← is-fit, unfit)
+
+      pub refused-own : not fit ≡ false → inOrder ≡ false
+          → after number (replied Silent) over-memory ≡ withMemory inOrder number event over-memory
+      unfolding withMemory
+      refused-own is-sound out = rw (eq-eqb (length ram) cardWords whole, ← is-fit, is-sound, out)
+
+      pub memory-took : (new : After) → not fit ≡ false → inOrder ≡ true
+          → new ≡ took (step event over-memory) → new ≡ withMemory inOrder number event over-memory
+      unfolding withMemory
+      memory-took new is-sound order same =
+          rw (eq-eqb (length ram) cardWords whole, ← is-fit, is-sound, order) same
+
+  pub word-took : (marks value time : ℕ) (heard : Word) (new : Card)
+      → heard ≡ wordOf marks value time → new ≡ wordStep heard over-memory .card
+      → after 0 (replied Silent) new ≡ took (step (word (wordOf marks value time)) over-memory)
+  unfolding step
+  word-took marks value time heard new is-heard is-new =
+      rw (← is-heard, words-are-silent heard over-memory, ← is-new)
+
+  pub silence-took : (line : Bool) (time : ℕ) (new : After)
+      → new ≡ took (silenceStep line time over-memory)
+      → new ≡ took (step (silence line time) over-memory)
+  unfolding step
+  silence-took line time new same = same
+
+  pub host-took : (address : ℕ) (words : List ℕ) (fit : Bool) (number : ℕ) (left : List ℕ)
+      → length ram ≡ cardWords → fit ≡ fitTerminal given → not fit ≡ false
+      → host.done number left ≡ host.hostWrite ram address words
+      → after number (replied Silent) (card (given .core) (given .queue) left)
+      ≡ withMemory
+      (leb 1 (length words) && leb (length words) 64 && leb (address + length words) cardWords)
+      8 (hostWrite address words) over-memory
+  unfolding withMemory step hostWriteStep host.hostWrite
+  host-took address words fit number left whole is-fit is-sound is =
+      ap answered (rw (eq-eqb (length ram) cardWords whole) at is)
+      ∙ rw (eq-eqb (length ram) cardWords whole, ← is-fit, is-sound)
+      (go (leb 1 (length words) && leb (length words) 64
+      && leb (address + length words) cardWords))
+    where
+      answered : host.Done → After
+      answered done =
+          after (done .number) (replied Silent) (card (given .core) (given .queue) (done .ram))
+
+      go : (order : Bool)
+          → answered (cond order (host.done 0 (sets ram address words)) (host.done 8 ram))
+          ≡ cond (not order) (after 8 (replied Silent) over-memory)
+          (took (quietly (card (given .core) (given .queue) (sets ram address words))))
+      go true = refl
+      go false = refl
+
+pub ruleset over-ram = (refused-1, refused-4, refused-own, memory-took, word-took, silence-took, host-took)
+
+-- ---- actions on the terminal alone
+
+module _ (given : Terminal) (fit : Bool) (is-fit : fit ≡ fitTerminal given) where
+  module _ (inOrder : Bool) (number : ℕ) (refused : Answer) (event : Event) where
+    pub alone-refused-4 : not fit ≡ true
+        → after 4 refused (alone given) ≡ withoutMemory inOrder number refused event (alone given)
+    unfolding withoutMemory
+    alone-refused-4 unfit = rw (← is-fit, unfit)
+
+    pub alone-refused-own : not fit ≡ false → inOrder ≡ false
+        → after number refused (alone given)
+        ≡ withoutMemory inOrder number refused event (alone given)
+    unfolding withoutMemory
+    alone-refused-own is-sound out = rw (← is-fit, is-sound, out)
+
+    pub alone-took : (new : After) → not fit ≡ false → inOrder ≡ true
+        → new ≡ took (step event (alone given))
+        → new ≡ withoutMemory inOrder number refused event (alone given)
+    unfolding withoutMemory
+    alone-took new is-sound order same = rw (← is-fit, is-sound, order) same
+
+  pub read-refused : not fit ≡ true
+      → after 4 (queueWord 0) (alone given) ≡ readQueueAction (alone given)
+  unfolding readQueueAction
+  read-refused unfit = rw (← is-fit, unfit)
+
+  pub read-took : (taken : QueueRead) → not fit ≡ false → taken ≡ readOf (given .queue)
+      → after 0 (queueWord (taken .word)) (card (given .core) (taken .queue) [])
+      ≡ readQueueAction (alone given)
+  unfolding readQueueAction step queueReadStep
+  read-took taken is-sound is-taken = rw (← is-fit, is-sound, is-taken)
+
+module _ (given : Terminal) (core : Core) where
+  pub table-took : (table : ℕ)
+      → core ≡ withTable table (withMessage (movedMessage (given .core .message)) (given .core))
+      → after 0 (replied Silent) (card core (given .queue) [])
+      ≡ took (step (tableMove table) (alone given))
+  unfolding step tableMoveStep
+  table-took table is = rw is
+
+  pub flags-took : (flags : ℕ) → core ≡ withFlags flags (given .core)
+      → after 0 (replied Silent) (card core (given .queue) [])
+      ≡ took (step (flagsWrite flags) (alone given))
+  unfolding step flagsWriteStep
+  flags-took flags is = rw is
+
+pub ruleset on-terminal =
+    (alone-refused-4, alone-refused-own, alone-took, read-refused, read-took, table-took, flags-took)
+
+-- ---- setup
+
+pub settled-with : (refusal : ℕ) (given same : Terminal)
+    → given ≡ same → settled refusal given ≡ settled refusal same
+settled-with refusal given same is = rw is
+
+-- ---- the core, by the host's actions
+
+pub moved-open : (message : Message) (held : OpenMessage) → message ≡ Open held
+    → movedMessage (Open held) ≡ movedMessage message
+moved-open message held is = rw is
+
+pub table-moved : (old core : Core) (message : Message) (table : ℕ)
+    → message ≡ movedMessage (old .message) → core ≡ withMessage message old
+    → withTable table core ≡ withTable table (withMessage (movedMessage (old .message)) old)
+table-moved old core message table is-message is-core = rw (is-core, is-message)
+
+-- ---- what a silence shows is what the action took
+
+pub shown-took : (outcome : Outcome) (new : Card) (reply : Reply)
+    → shown new (replied reply) ≡ seen outcome → after 0 (replied reply) new ≡ took outcome
+shown-took outcome new reply same =
+    ap (λ (look : Shown). after 0 (look .answer) (look .card)) same

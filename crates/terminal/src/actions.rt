@@ -1,0 +1,311 @@
+// The actions of the library. Each takes the terminal and hands it back, with a refusal number, 0 for
+// none; what is refused is as it was given.
+ghost use mathlib.Core.Path.{_≡_};
+ghost use Rattle.terminal.specs.declared.state.Reply.the-variants.{Silent};
+ghost use Rattle.terminal.specs.State.{card, terminalAtSetup};
+ghost use Rattle.terminal.specs.Event.{replied, queueWord};
+ghost use Rattle.terminal.specs.WordStep.{wordStep};
+ghost use Rattle.terminal.specs.SilenceStep.{silenceStep};
+ghost use Rattle.terminal.specs.Actions.{after, took, alone, wordOf, wordAction, silenceAction, hostWriteAction, readQueueAction, moveTableAction, setFlagsAction, setupAction};
+use card::host;
+use card::place::CARD_WORDS;
+use queue::Queue;
+use crate::state::{Core, Reply, Terminal, Word};
+
+// What an action leaves.
+pub struct Done {
+    pub refusal: u8,
+    pub terminal: Terminal,
+}
+
+// What a word or a silence leaves: the reply too.
+pub struct Answered {
+    pub refusal: u8,
+    pub reply: Reply,
+    pub terminal: Terminal,
+}
+
+// What a queue read leaves: the word too, 0 where it is refused.
+pub struct QueueAnswered {
+    pub refusal: u8,
+    pub word: u16,
+    pub terminal: Terminal,
+}
+
+// A word by its marks: bit 0 line, 1 command sync, 2 sound, 3 joined.
+pub fn word_of(marks: u8, value: u16, time: u32) -> Word
+    ensures { λ word. ⌜ word ≡ wordOf marks value time ⌝ }
+{
+    Word {
+        line: marks / 1 % 2 == 1,
+        sync: marks / 2 % 2 == 1,
+        sound: marks / 4 % 2 == 1,
+        joined: marks / 8 % 2 == 1,
+        value: value,
+        time: time,
+    }
+}
+
+impl Terminal {
+    fn take_word(self, ram: &mut [u16], word: Word) -> Terminal
+        ensures { λ left. ⌜ card (left .core) (left .queue) (now (ram .exit))
+            ≡ wordStep word (card (self .core) (self .queue) (now (ram .entry))) .card ⌝ }
+    {
+        let core = self.core;
+        let old = self.queue;
+        let mut places = old.places;
+        let ring = old.ring;
+        let held = core.word(ring, &mut places, ram, word);
+        let left = held.core;
+        let next = held.ring;
+        Terminal {
+            core: left,
+            queue: Queue {
+                places: places,
+                ring: next,
+            },
+        }
+    }
+    fn take_silence(self, ram: &mut [u16], line: bool, time: u32) -> Answered
+        ensures { λ left. ⌜ after (left .refusal) (replied (left .reply))
+            (card (left .terminal .core) (left .terminal .queue) (now (ram .exit)))
+            ≡ took (silenceStep line time (card (self .core) (self .queue) (now (ram .entry)))) ⌝ }
+    {
+        let core = self.core;
+        let old = self.queue;
+        let mut places = old.places;
+        let ring = old.ring;
+        let heard = core.silence(ring, &mut places, ram, line, time);
+        let held = heard.held;
+        let reply = heard.reply;
+        let left = held.core;
+        let next = held.ring;
+        Answered {
+            refusal: 0,
+            reply: reply,
+            terminal: Terminal {
+                core: left,
+                queue: Queue {
+                    places: places,
+                    ring: next,
+                },
+            },
+        }
+    }
+
+    // A word from the bus: marks (bit 0 line, 1 command sync, 2 sound, 3 joined), value, time.
+    pub fn word(self, ram: &mut [u16], marks: u8, value: u16, time: u32) -> Answered
+        ensures { λ answer. ⌜ after (answer .refusal) (replied (answer .reply))
+            (card (answer .terminal .core) (answer .terminal .queue) (now (ram .exit)))
+            ≡ wordAction marks value time (card (self .core) (self .queue) (now (ram .entry))) ⌝ }
+    {
+        if ram.len() != CARD_WORDS {
+            return Answered {
+                refusal: 1,
+                reply: Reply::Silent,
+                terminal: self,
+            };
+        }
+        if !self.is_fit() {
+            return Answered {
+                refusal: 4,
+                reply: Reply::Silent,
+                terminal: self,
+            };
+        }
+        if marks > 15 {
+            return Answered {
+                refusal: 8,
+                reply: Reply::Silent,
+                terminal: self,
+            };
+        }
+        let left = self.take_word(ram, word_of(marks, value, time));
+        Answered {
+            refusal: 0,
+            reply: Reply::Silent,
+            terminal: left,
+        }
+    }
+
+    // Silence on line 0, A, or 1, B.
+    pub fn silence(self, ram: &mut [u16], line: u8, time: u32) -> Answered
+        ensures { λ answer. ⌜ after (answer .refusal) (replied (answer .reply))
+            (card (answer .terminal .core) (answer .terminal .queue) (now (ram .exit)))
+            ≡ silenceAction line time (card (self .core) (self .queue) (now (ram .entry))) ⌝ }
+    {
+        if ram.len() != CARD_WORDS {
+            return Answered {
+                refusal: 1,
+                reply: Reply::Silent,
+                terminal: self,
+            };
+        }
+        if !self.is_fit() {
+            return Answered {
+                refusal: 4,
+                reply: Reply::Silent,
+                terminal: self,
+            };
+        }
+        if line > 1 {
+            return Answered {
+                refusal: 8,
+                reply: Reply::Silent,
+                terminal: self,
+            };
+        }
+        self.take_silence(ram, line == 1, time)
+    }
+
+    // The host writes 1 to 64 words from an address on.
+    pub fn host_write(self, ram: &mut [u16], address: u16, words: &[u16]) -> Done
+        ensures { λ done. ⌜ after (done .refusal) (replied Silent)
+            (card (done .terminal .core) (done .terminal .queue) (now (ram .exit)))
+            ≡ hostWriteAction address (now (words .entry))
+            (card (self .core) (self .queue) (now (ram .entry))) ⌝ }
+    {
+        if ram.len() != CARD_WORDS {
+            return Done {
+                refusal: 1,
+                terminal: self,
+            };
+        }
+        if !self.is_fit() {
+            return Done {
+                refusal: 4,
+                terminal: self,
+            };
+        }
+        let number = host::write(ram, address, words);
+        Done {
+            refusal: number,
+            terminal: self,
+        }
+    }
+
+    // The oldest block leaves the queue.
+    pub fn read_queue(self) -> QueueAnswered
+        ensures { λ answer. ⌜ after (answer .refusal) (queueWord (answer .word))
+            (alone (answer .terminal)) ≡ readQueueAction (alone self) ⌝ }
+    {
+        if !self.is_fit() {
+            return QueueAnswered {
+                refusal: 4,
+                word: 0,
+                terminal: self,
+            };
+        }
+        let core = self.core;
+        let old = self.queue;
+        let taken = old.read();
+        let queue = taken.queue;
+        QueueAnswered {
+            refusal: 0,
+            word: taken.word,
+            terminal: Terminal {
+                core: core,
+                queue: queue,
+            },
+        }
+    }
+
+    // The host sets the table block.
+    pub fn move_table(self, table: u16) -> Done
+        ensures { λ done. ⌜ after (done .refusal) (replied Silent) (alone (done .terminal))
+            ≡ moveTableAction table (alone self) ⌝ }
+    {
+        if !self.is_fit() {
+            return Done {
+                refusal: 4,
+                terminal: self,
+            };
+        }
+        if table > 255 {
+            return Done {
+                refusal: 3,
+                terminal: self,
+            };
+        }
+        let old = self.core;
+        let queue = self.queue;
+        let core = old.move_table(table);
+        Done {
+            refusal: 0,
+            terminal: Terminal {
+                core: core,
+                queue: queue,
+            },
+        }
+    }
+
+    // The host writes the flags.
+    pub fn set_flags(self, flags: u16) -> Done
+        ensures { λ done. ⌜ after (done .refusal) (replied Silent) (alone (done .terminal))
+            ≡ setFlagsAction flags (alone self) ⌝ }
+    {
+        if !self.is_fit() {
+            return Done {
+                refusal: 4,
+                terminal: self,
+            };
+        }
+        if flags > 63 {
+            return Done {
+                refusal: 8,
+                terminal: self,
+            };
+        }
+        let old = self.core;
+        let queue = self.queue;
+        let core = old.set_flags(flags);
+        Done {
+            refusal: 0,
+            terminal: Terminal {
+                core: core,
+                queue: queue,
+            },
+        }
+    }
+
+    // A terminal as setup leaves it.
+    fn at_setup(station: u16, table: u16, flags: u16) -> Terminal
+        ensures { λ terminal. ⌜ terminal ≡ terminalAtSetup station table flags ⌝ }
+    {
+        let core = Core::at_setup(station, table, flags);
+        let queue = Queue::empty();
+        Terminal {
+            core: core,
+            queue: queue,
+        }
+    }
+
+    // Setup. Where it is refused there is no terminal: the one that comes back is refused by every
+    // action with 4.
+    pub fn setup(station: u16, table: u16, flags: u16) -> Done
+        ensures { λ done. ⌜ done ≡ setupAction station table flags ⌝ }
+    {
+        if station > 30 {
+            return Done {
+                refusal: 2,
+                terminal: Terminal::at_setup(31, 0, 0),
+            };
+        }
+        if table > 255 {
+            return Done {
+                refusal: 3,
+                terminal: Terminal::at_setup(31, 0, 0),
+            };
+        }
+        if flags > 63 {
+            return Done {
+                refusal: 8,
+                terminal: Terminal::at_setup(31, 0, 0),
+            };
+        }
+        Done {
+            refusal: 0,
+            terminal: Terminal::at_setup(station, table, flags),
+        }
+    }
+}
