@@ -53,7 +53,12 @@ module _ (places : List ℕ) (ring : Ring) (mark : ℕ) (is : Weighed (ring .ove
   unfolding oldestWord withoutOldest
   read-none none =
       let stays : ring .count - 1 ≡ ring .count = omega arith in
-      rw (is .exactly, eq-eqb (ring .count) 0 none, zero-add (weightOf (ring .overflow) 1024), stays)
+      rw (
+        is .exactly,
+        eq-eqb (ring .count) 0 none,
+        zero-add (weightOf (ring .overflow) 1024),
+        stays,
+      )
 
   pub read-oldest : (ring .count ≡ 0 → ⊥)
       → taking (32768 + getD places (ring .start % queuePlaces) 0 % 1024 + mark)

@@ -13,7 +13,14 @@ use Rattle.queue.specs.declared.QueueRead.{QueueRead}
 use Rattle.queue.specs.Queue.{readOf}
 use Rattle.terminal.specs.declared.judge.WordAct.{WordAct}
 use Rattle.terminal.specs.declared.judge.WordAct.the-variants.{
-    Ignore, Store, Check, TakeSecond, TakeStatus, Fault, Supersede, Drop
+  Ignore,
+  Store,
+  Check,
+  TakeSecond,
+  TakeStatus,
+  Fault,
+  Supersede,
+  Drop,
 }
 use Rattle.terminal.specs.declared.format.Format.{Format}
 use Rattle.terminal.specs.declared.state.OpenMessage.{OpenMessage}
@@ -25,22 +32,52 @@ use Rattle.terminal.specs.declared.state.Word.{Word}
 use Rattle.terminal.specs.declared.state.Reply.{Reply}
 use Rattle.terminal.specs.declared.state.Reply.the-variants.{Silent}
 use Rattle.terminal.specs.State.{
-    Card, card, withTable, withFlags, withMessage, movedMessage
+  Card,
+  card,
+  withTable,
+  withFlags,
+  withMessage,
+  movedMessage,
 }
 use Rattle.terminal.specs.Opening.{ownCommand}
 use Rattle.terminal.specs.Words.{onWord}
 use Rattle.terminal.specs.Event.{
-    Event, word, silence, hostWrite, tableMove, flagsWrite, Answer, replied, queueWord, Outcome,
-    Shown, shown, seen, opens, quietly
+  Event,
+  word,
+  silence,
+  hostWrite,
+  tableMove,
+  flagsWrite,
+  Answer,
+  replied,
+  queueWord,
+  Outcome,
+  Shown,
+  shown,
+  seen,
+  opens,
+  quietly,
 }
 use Rattle.terminal.specs.WordStep.{wordDone, wordMet, wordStep}
 use Rattle.terminal.specs.SilenceStep.{silenceStep}
 use Rattle.terminal.specs.Machine.{
-    step, queueReadStep, hostWriteStep, tableMoveStep, flagsWriteStep
+  step,
+  queueReadStep,
+  hostWriteStep,
+  tableMoveStep,
+  flagsWriteStep,
 }
 use Rattle.terminal.specs.Fitness.{fitOpen, fitMessage, fitTerminal}
 use Rattle.terminal.specs.Actions.{
-    After, after, took, alone, wordOf, withMemory, withoutMemory, readQueueAction, settled
+  After,
+  after,
+  took,
+  alone,
+  wordOf,
+  withMemory,
+  withoutMemory,
+  readQueueAction,
+  settled,
 }
 
 -- ---- fitness of a message, where one is open
@@ -51,7 +88,8 @@ open-is-fit message held station fit is same = rw is same
 
 -- ---- a word brings no reply
 
-word-done-silent : (act : WordAct) (format : Format) (message : OpenMessage) (heard : Word) (old : Card)
+word-done-silent : (act : WordAct) (format : Format) (message : OpenMessage) (heard : Word)
+    (old : Card)
     → wordDone act format message heard old .answer ≡ replied Silent
 unfolding wordDone
 word-done-silent Ignore format message heard old = refl
@@ -143,7 +181,8 @@ module _ (given : Terminal) (ram : List ℕ) where
       go true = refl
       go false = refl
 
-pub ruleset over-ram = (refused-1, refused-4, refused-own, memory-took, word-took, silence-took, host-took)
+pub ruleset over-ram =
+    (refused-1, refused-4, refused-own, memory-took, word-took, silence-took, host-took)
 
 -- ---- actions on the terminal alone
 
@@ -191,8 +230,15 @@ module _ (given : Terminal) (core : Core) where
   unfolding step flagsWriteStep
   flags-took flags is = rw is
 
-pub ruleset on-terminal =
-    (alone-refused-4, alone-refused-own, alone-took, read-refused, read-took, table-took, flags-took)
+pub ruleset on-terminal = (
+  alone-refused-4,
+  alone-refused-own,
+  alone-took,
+  read-refused,
+  read-took,
+  table-took,
+  flags-took,
+)
 
 -- ---- setup
 

@@ -8,19 +8,29 @@ use Rattle.bus.specs.Command.{addressOf}
 use Rattle.terminal.specs.declared.format.Format.{Format}
 use Rattle.terminal.specs.declared.judge.WordAct.{WordAct}
 use Rattle.terminal.specs.declared.judge.WordAct.the-variants.{
-    Ignore, TakeStatus, Fault, Supersede
+  Ignore,
+  TakeStatus,
+  Fault,
+  Supersede,
 }
 use Rattle.terminal.specs.declared.judge.SilenceAct.{SilenceAct}
 use Rattle.terminal.specs.declared.state.Stage.{Stage}
 use Rattle.terminal.specs.declared.state.Stage.the-variants.{
-    Data, SecondCommand, AwaitingStatus, Skipping
+  Data,
+  SecondCommand,
+  AwaitingStatus,
+  Skipping,
 }
 use Rattle.terminal.specs.declared.state.OpenMessage.{OpenMessage}
 use Rattle.terminal.specs.declared.state.Word.{Word}
 use Rattle.terminal.specs.State.{secondOf}
 use Rattle.terminal.specs.Opening.{ownCommand}
 use Rattle.terminal.specs.Words.{
-    inData, inSecondCommand, inAwaitingStatus, wordInStage, onWord
+  inData,
+  inSecondCommand,
+  inAwaitingStatus,
+  wordInStage,
+  onWord,
 }
 use Rattle.terminal.specs.Silence.{silenceInStage}
 
@@ -118,15 +128,15 @@ module _ (station flags : ℕ) (format : Format) (message : OpenMessage) (word :
   module _
       (stays : (own && (not (Bool·beq (word .line) (message .line)) || not (word .joined))) ≡ false)
     where
-    pub word-elsewhere : not (Bool·beq (word .line) (message .line)) ≡ true
-        → Ignore ≡ onWord station flags format message word
-    unfolding onWord
-    word-elsewhere holds = rw (← is-own, stays, holds)
+      pub word-elsewhere : not (Bool·beq (word .line) (message .line)) ≡ true
+          → Ignore ≡ onWord station flags format message word
+      unfolding onWord
+      word-elsewhere holds = rw (← is-own, stays, holds)
 
-    pub word-here : (act : WordAct) → not (Bool·beq (word .line) (message .line)) ≡ false
-        → act ≡ wordInStage (message .stage) station format message word
-        → act ≡ onWord station flags format message word
-    unfolding onWord
-    word-here act fails same = rw (← is-own, stays, fails) same
+      pub word-here : (act : WordAct) → not (Bool·beq (word .line) (message .line)) ≡ false
+          → act ≡ wordInStage (message .stage) station format message word
+          → act ≡ onWord station flags format message word
+      unfolding onWord
+      word-here act fails same = rw (← is-own, stays, fails) same
 
 pub ruleset on-words = (word-supersedes, word-elsewhere, word-here)

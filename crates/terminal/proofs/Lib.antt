@@ -11,6 +11,7 @@
 --     FitWord       a word keeps the card fit, whatever it decides
 --     FitSilence    a silence keeps the card fit
 --     FitLaws       a fit state stays fit: setup, one event, and a run
+--     Determined    each public contract allows one outcome alone
 pub mod FormatLaws
 pub mod JudgeLaws
 pub mod OpeningLaws
@@ -23,3 +24,4 @@ pub mod FitChanges
 pub mod FitWord
 pub mod FitSilence
 pub mod FitLaws
+pub mod Determined

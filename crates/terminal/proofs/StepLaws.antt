@@ -1,5 +1,5 @@
--- The laws of `specs/WordStep.antt` and `specs/SilenceStep.antt`, as the code does what was decided:
--- a law for each act. Assumes nothing.
+-- The laws of `specs/WordStep.antt` and `specs/SilenceStep.antt`, as the code does what was
+-- decided: a law for each act. Assumes nothing.
 use mathlib.Core.Path.{_≡_, sym, ap, _∙_}
 use mathlib.Core.Bool.{Bool, true, false}
 use mathlib.Core.List.{List}
@@ -15,7 +15,9 @@ use Rattle.terminal.specs.declared.judge.WordAct.the-variants as word-ac
 use Rattle.terminal.specs.declared.judge.SilenceAct.{SilenceAct}
 use Rattle.terminal.specs.declared.judge.SilenceAct.the-variants as silence-acts
 use Rattle.terminal.specs.declared.state.Stage.the-variants.{
-    Data, SecondCommand, AwaitingStatus
+  Data,
+  SecondCommand,
+  AwaitingStatus,
 }
 use Rattle.terminal.specs.declared.state.Second.the-variants.{Command}
 use Rattle.terminal.specs.declared.state.OpenMessage.{OpenMessage}
@@ -103,9 +105,16 @@ module _ (act : WordAct) (format : Format) (message : OpenMessage) (word : Word)
   unfolding wordDone opening
   word-dropped new is is-new = rw (is, is-new)
 
-pub ruleset word-acting =
-    (word-ignored, word-stored, word-checked, second-taken, status-taken, word-faulted,
-    word-superseded, word-dropped)
+pub ruleset word-acting = (
+  word-ignored,
+  word-stored,
+  word-checked,
+  second-taken,
+  status-taken,
+  word-faulted,
+  word-superseded,
+  word-dropped,
+)
 
 module _ (word : Word) (core : Core) (places : List ℕ) (ring : Ring) (ram : List ℕ) where
   abbrev held-before : Card
@@ -127,7 +136,8 @@ module _ (word : Word) (core : Core) (places : List ℕ) (ring : Ring) (ram : Li
     pub idle-ignored : own ≡ false → held-before ≡ wordStep word held-before .card
     idle-ignored fails = rw (← word-step-by Idle idle, ← is-own, fails)
 
-  pub open-met : (message : OpenMessage) (kind : Kind) (format : Format) (act : WordAct) (new : Card)
+  pub open-met : (message : OpenMessage) (kind : Kind) (format : Format) (act : WordAct)
+      (new : Card)
       → core .message ≡ Open message
       → kind ≡ kindOf (message .command) → format ≡ formatBy kind (message .command)
       → act ≡ onWord (core .station) (core .flags) format message word
@@ -178,7 +188,8 @@ module _ (line : Bool) (time : ℕ) (core : Core) (places : List ℕ) (ring : Ri
   silent-before = card core (queue places ring) ram
 
   silence-step-by : (message : Message) → core .message ≡ message
-      → seen (silenceMet message line time silent-before) ≡ seen (silenceStep line time silent-before)
+      → seen (silenceMet message line time silent-before)
+      ≡ seen (silenceStep line time silent-before)
   unfolding silenceStep
   silence-step-by message is =
       sym (ap (λ (met : Message). seen (silenceMet met line time silent-before)) is)

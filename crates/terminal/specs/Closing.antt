@@ -96,7 +96,9 @@ replyOf format core message =
 unfoldable pub switchedShut : ℕ → Bool → Shut → Shut
 switchedShut code line shut =
     record {
-      a = cond (eqb code 8 || (eqb code 5 && line)) false (cond (eqb code 4 && line) true (shut .a));
+      a =
+          cond (eqb code 8 || (eqb code 5 && line)) false
+          (cond (eqb code 4 && line) true (shut .a));
       b =
           cond (eqb code 8 || (eqb code 5 && not line)) false
           (cond (eqb code 4 && not line) true (shut .b));

@@ -37,7 +37,7 @@ row block cell takes sends yields receive fresh last switch =
 -- block, table cell, words taken, words sent, yields to busy, data receive, status made anew,
 -- last command sent and kept, code that acts on shut lines and inhibit.
 -- A data chain goes by direction and subaddress; a mode chain by its code: 16 by cell 32, 19 by 63,
--- the others by 31. Internal codes 2, 4 to 7 and 18 have no block, and neither has an illegal command
+-- the others by 31. Internal codes 2, 4 to 7 and 18 and illegal commands have no block
 unfoldable pub formatBy : Kind → ℕ → Format
 formatBy Receive command =
     row true (subaddressOf command) (wordsOf command) 0 true true true false 0

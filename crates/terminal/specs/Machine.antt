@@ -25,7 +25,9 @@ unfoldable pub queueReadStep : Card → Outcome
 queueReadStep old =
     record {
       card =
-          card (old .core) (queue (old .queue .places) (withoutOldest (old .queue .ring))) (old .ram);
+          card (old .core)
+          (queue (old .queue .places) (withoutOldest (old .queue .ring)))
+          (old .ram);
       answer = queueWord (oldestWord (old .queue));
       opened = none;
     }

@@ -31,7 +31,8 @@ ownCommand station flags word =
 abbrev pub busyAt : Format → ℕ → ℕ → Bool
 busyAt format flags entry = hasBit flags 2 || (format .block && isBusy entry)
 
--- the message that a word opens: `entry` is its chain's table word. Busy, block and bit 14 are fixed
+-- the message that a word opens; `entry` is its chain's table word. Busy, block and bit 14 are
+-- fixed here
 unfoldable pub openedMessage : Kind → Format → ℕ → Word → Core → OpenMessage
 openedMessage kind format entry word core =
     record {

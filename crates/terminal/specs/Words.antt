@@ -1,5 +1,5 @@
--- Words of an open message: document 01's rules 1 to 8 in their order. What is to be done is decided
--- here and done in `WordStep`. Definitions only. Assumes nothing.
+-- Words of an open message: document 01's rules 1 to 8 in their order. What is to be done is
+-- decided here and done in `WordStep`. Definitions only. Assumes nothing.
 use mathlib.Core.Bool.{Bool, cond, not, _&&_, _||_, Bool·beq}
 use Prim.Native.Nat.{ℕ, _+_}
 use lib.Dec.{eqb, leb}

@@ -1,16 +1,31 @@
-// The actions of the library. Each takes the terminal and hands it back, with a refusal number, 0 for
-// none; what is refused is as it was given.
+// The actions of the library. Each takes the terminal and hands it back, with a refusal number, 0
+// for none; what is refused is as it was given.
 ghost use mathlib.Core.Path.{_≡_};
 ghost use Rattle.terminal.specs.declared.state.Reply.the-variants.{Silent};
 ghost use Rattle.terminal.specs.State.{card, terminalAtSetup};
 ghost use Rattle.terminal.specs.Event.{replied, queueWord};
 ghost use Rattle.terminal.specs.WordStep.{wordStep};
 ghost use Rattle.terminal.specs.SilenceStep.{silenceStep};
-ghost use Rattle.terminal.specs.Actions.{after, took, alone, wordOf, wordAction, silenceAction, hostWriteAction, readQueueAction, moveTableAction, setFlagsAction, setupAction};
+ghost use Rattle.terminal.specs.Actions.{
+  after,
+  took,
+  alone,
+  wordOf,
+  wordAction,
+  silenceAction,
+  hostWriteAction,
+  readQueueAction,
+  moveTableAction,
+  setFlagsAction,
+  setupAction,
+};
+use crate::state::Core;
+use crate::state::Reply;
+use crate::state::Terminal;
+use crate::state::Word;
 use card::host;
 use card::place::CARD_WORDS;
 use queue::Queue;
-use crate::state::{Core, Reply, Terminal, Word};
 
 // What an action leaves.
 pub struct Done {
@@ -66,6 +81,7 @@ impl Terminal {
             },
         }
     }
+
     fn take_silence(self, ram: &mut [u16], line: bool, time: u32) -> Answered
         ensures { λ left. ⌜ after (left .refusal) (replied (left .reply))
             (card (left .terminal .core) (left .terminal .queue) (now (ram .exit)))

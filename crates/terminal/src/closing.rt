@@ -5,17 +5,37 @@ ghost use lib.Dec.{eqb};
 ghost use Rattle.queue.specs.Queue.{queue};
 ghost use Rattle.terminal.specs.declared.state.Message.the-variants.{Idle};
 ghost use Rattle.terminal.specs.State.{card, withStatus, withSwitches, withMessage};
-ghost use Rattle.terminal.specs.Closing.{unlessBusy, stateOf, closedRam, closedQueue, closing, faulted, replies, replyOf, switchedShut, switchedInhibit, switched, endWords, ended};
+ghost use Rattle.terminal.specs.Closing.{
+  unlessBusy,
+  stateOf,
+  closedRam,
+  closedQueue,
+  closing,
+  faulted,
+  replies,
+  replyOf,
+  switchedShut,
+  switchedInhibit,
+  switched,
+  endWords,
+  ended,
+};
+use crate::format::Format;
+use crate::judge;
+use crate::state::Core;
+use crate::state::Held;
+use crate::state::Message;
+use crate::state::OpenMessage;
+use crate::state::Reply;
+use crate::state::Shut;
 use bus::command;
 use bus::status;
 use card::memory;
-use card::place::{Block, Cell};
+use card::place::Block;
+use card::place::Cell;
 use card::state::State;
 use card::time;
 use queue::Ring;
-use crate::format::Format;
-use crate::judge;
-use crate::state::{Core, Held, Message, OpenMessage, Reply, Shut};
 
 // Words stored or sent: none under busy where the format yields.
 fn unless_busy(format: Format, message: OpenMessage, words: u16) -> u16
@@ -59,16 +79,16 @@ fn close_ram(ram: &mut [u16], format: Format, state: u16, time: u32, message: Op
     if moved {
         return;
     }
-    memory::write_link(ram, Block(message.block), Block(message.home), Cell(format.cell));
+    memory::write_link(
+        ram,
+        Block(message.block),
+        Block(message.home),
+        Cell(format.cell),
+    );
 }
 
 // If wanted, the block number joins the queue.
-fn close_queue(
-    ring: Ring,
-    places: &mut [u16; 256],
-    format: Format,
-    message: OpenMessage,
-) -> Ring
+fn close_queue(ring: Ring, places: &mut [u16; 256], format: Format, message: OpenMessage) -> Ring
     ensures { λ joined. ⌜ queue (now (places .exit)) joined
         ≡ closedQueue format message (queue (now (places .entry)) ring) ⌝ }
 {
@@ -114,7 +134,8 @@ impl Core {
         time: u32,
         message: OpenMessage,
     ) -> Held
-        ensures { λ held. ⌜ card (held .core) (queue (now (places .exit)) (held .ring)) (now (ram .exit))
+        ensures { λ held. ⌜ card (held .core)
+            (queue (now (places .exit)) (held .ring)) (now (ram .exit))
             ≡ closing format state time message
             (card self (queue (now (places .entry)) ring) (now (ram .entry))) ⌝ }
     {
@@ -137,7 +158,8 @@ impl Core {
         time: u32,
         message: OpenMessage,
     ) -> Held
-        ensures { λ held. ⌜ card (held .core) (queue (now (places .exit)) (held .ring)) (now (ram .exit))
+        ensures { λ held. ⌜ card (held .core)
+            (queue (now (places .exit)) (held .ring)) (now (ram .exit))
             ≡ faulted format code time message
             (card self (queue (now (places .entry)) ring) (now (ram .entry))) ⌝ }
     {
@@ -214,7 +236,8 @@ impl Core {
         time: u32,
         message: OpenMessage,
     ) -> Held
-        ensures { λ held. ⌜ card (held .core) (queue (now (places .exit)) (held .ring)) (now (ram .exit))
+        ensures { λ held. ⌜ card (held .core)
+            (queue (now (places .exit)) (held .ring)) (now (ram .exit))
             ≡ ended format time message
             (card self (queue (now (places .entry)) ring) (now (ram .entry))) ⌝ }
     {
@@ -233,7 +256,8 @@ fn is_shut(shut: Shut, line: bool) -> bool
 
 // What takes words has stored them; what sends has sent them where a reply was given.
 fn moved_words(format: Format, given: bool, taken: u16) -> u16
-    ensures { λ words. ⌜ words ≡ cond (eqb (format .takes) 0) (cond given (format .sends) 0) taken ⌝ }
+    ensures { λ words. ⌜ words
+        ≡ cond (eqb (format .takes) 0) (cond given (format .sends) 0) taken ⌝ }
 {
     if format.takes == 0 {
         if given {
@@ -260,8 +284,16 @@ fn switched_line(opens: bool, shuts: bool, shut: bool) -> bool
 fn switched_shut(code: u16, line: bool, shut: Shut) -> Shut
     ensures { λ now. ⌜ now ≡ switchedShut code line shut ⌝ }
 {
-    let a = switched_line((code == 8) | ((code == 5) & line), (code == 4) & line, shut.a);
-    let b = switched_line((code == 8) | ((code == 5) & !line), (code == 4) & !line, shut.b);
+    let a = switched_line(
+        (code == 8) | ((code == 5) & line),
+        (code == 4) & line,
+        shut.a,
+    );
+    let b = switched_line(
+        (code == 8) | ((code == 5) & !line),
+        (code == 4) & !line,
+        shut.b,
+    );
     Shut { a: a, b: b }
 }
 

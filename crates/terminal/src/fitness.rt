@@ -1,11 +1,23 @@
 // Refusal 4: whether a state is fit.
 ghost use mathlib.Core.Path.{_≡_};
-ghost use Rattle.terminal.specs.Fitness.{fitSecond, fitStage, fitOpen, fitMessage, fitCore, fitTerminal};
-use bus::command;
-use bus::kind;
+ghost use Rattle.terminal.specs.Fitness.{
+  fitSecond,
+  fitStage,
+  fitOpen,
+  fitMessage,
+  fitCore,
+  fitTerminal,
+};
 use crate::format;
 use crate::judge;
-use crate::state::{Core, Message, OpenMessage, Second, Stage, Terminal};
+use crate::state::Core;
+use crate::state::Message;
+use crate::state::OpenMessage;
+use crate::state::Second;
+use crate::state::Stage;
+use crate::state::Terminal;
+use bus::command;
+use bus::kind;
 
 // After a second command only data receives, that command as rule 6 takes it.
 fn is_fit_second(second: Second, station: u16, command: u16, receive: bool) -> bool

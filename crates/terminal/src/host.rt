@@ -1,7 +1,15 @@
 // What the host does to the core, and setup.
 ghost use mathlib.Core.Path.{_≡_};
-ghost use Rattle.terminal.specs.State.{withTable, withFlags, withMessage, movedMessage, coreAtSetup};
-use crate::state::{Core, Message, Shut};
+ghost use Rattle.terminal.specs.State.{
+  withTable,
+  withFlags,
+  withMessage,
+  movedMessage,
+  coreAtSetup,
+};
+use crate::state::Core;
+use crate::state::Message;
+use crate::state::Shut;
 
 // The host has set the table block: an open message remembers it.
 fn moved_message(message: Message) -> Message

@@ -2,11 +2,24 @@
 ghost use mathlib.Core.Path.{_≡_};
 ghost use Rattle.terminal.specs.State.{hasSecond, secondOf};
 ghost use Rattle.terminal.specs.Opening.{ownCommand};
-ghost use Rattle.terminal.specs.Words.{asksForData, dropsBroadcast, isSecond, firstCommand, inData, inSecondCommand, inAwaitingStatus, wordInStage, onWord};
+ghost use Rattle.terminal.specs.Words.{
+  asksForData,
+  dropsBroadcast,
+  isSecond,
+  firstCommand,
+  inData,
+  inSecondCommand,
+  inAwaitingStatus,
+  wordInStage,
+  onWord,
+};
 ghost use Rattle.terminal.specs.Silence.{silenceInStage, onSilence};
-use bus::command;
 use crate::format::Format;
-use crate::state::{OpenMessage, Second, Stage, Word};
+use crate::state::OpenMessage;
+use crate::state::Second;
+use crate::state::Stage;
+use crate::state::Word;
+use bus::command;
 
 pub enum WordAct {
     // nothing
@@ -113,19 +126,19 @@ fn first_command(station: u16, command: u16, value: u16) -> WordAct
 fn in_data(station: u16, format: Format, message: OpenMessage, word: Word) -> WordAct
     ensures { λ act. ⌜ act ≡ inData station format message word ⌝ }
 {
-    let sound = word.sound;
-    let joined = word.joined;
+    let unsound = !word.sound;
+    let unjoined = !word.joined;
     let sync = word.sync;
-    let takes = format.takes;
     let taken = message.taken;
+    let takes = format.takes;
     let second = message.second;
     let answered = has_second(second);
     let first = sync & format.receive & (taken == 0) & !answered;
     let kept = message.busy & format.yields;
-    if !sound {
+    if unsound {
         return WordAct::Fault(1);
     }
-    if !joined {
+    if unjoined {
         return WordAct::Fault(3);
     }
     if takes <= taken {

@@ -1,5 +1,5 @@
-// Words and silences over what a run holds. These are total: fitness is judged by the actions, and a
-// run that starts fit stays so.
+// Words and silences over what a run holds. These are total: fitness is judged by the actions, and
+// a run that starts fit stays so.
 ghost use mathlib.Core.Path.{_≡_};
 ghost use Rattle.queue.specs.Queue.{queue};
 ghost use Rattle.terminal.specs.declared.state.Message.the-variants.{Open};
@@ -7,15 +7,25 @@ ghost use Rattle.terminal.specs.State.{card, withMessage, further};
 ghost use Rattle.terminal.specs.Event.{shown, seen, replied};
 ghost use Rattle.terminal.specs.WordStep.{wordDone, wordStep};
 ghost use Rattle.terminal.specs.SilenceStep.{silenceDone, silenceStep};
-use bus::kind;
-use card::memory;
-use card::place::{Block, Cell};
-use queue::Ring;
 use crate::format;
 use crate::format::Format;
 use crate::judge;
-use crate::judge::{SilenceAct, WordAct};
-use crate::state::{Core, Heard, Held, Message, OpenMessage, Reply, Second, Stage, Word};
+use crate::judge::SilenceAct;
+use crate::judge::WordAct;
+use crate::state::Core;
+use crate::state::Heard;
+use crate::state::Held;
+use crate::state::Message;
+use crate::state::OpenMessage;
+use crate::state::Reply;
+use crate::state::Second;
+use crate::state::Stage;
+use crate::state::Word;
+use bus::kind;
+use card::memory;
+use card::place::Block;
+use card::place::Cell;
+use queue::Ring;
 
 impl OpenMessage {
     // The same message, further on.
@@ -41,7 +51,8 @@ impl OpenMessage {
 impl Core {
     // The open message goes on.
     fn go_on(self, ring: Ring, message: OpenMessage) -> Held
-        ensures { λ held. ⌜ held ≡ record { core = withMessage (Open message) self; ring = ring } ⌝ }
+        ensures { λ held. ⌜ held
+            ≡ record { core = withMessage (Open message) self; ring = ring } ⌝ }
     {
         let core = self.with_message(Message::Open(message));
         Held {
@@ -61,7 +72,8 @@ impl Core {
         message: OpenMessage,
         word: Word,
     ) -> Held
-        ensures { λ held. ⌜ card (held .core) (queue (now (places .exit)) (held .ring)) (now (ram .exit))
+        ensures { λ held. ⌜ card (held .core)
+            (queue (now (places .exit)) (held .ring)) (now (ram .exit))
             ≡ wordDone act format message word
             (card self (queue (now (places .entry)) ring) (now (ram .entry))) .card ⌝ }
     {
@@ -78,7 +90,10 @@ impl Core {
             WordAct::Check(taken) => self.go_on(ring, message.further(Stage::Data, second, taken)),
             WordAct::TakeSecond(value) => {
                 let taken = Second::Command(value);
-                self.go_on(ring, message.further(Stage::SecondCommand, taken, message.taken))
+                self.go_on(
+                    ring,
+                    message.further(Stage::SecondCommand, taken, message.taken),
+                )
             }
             WordAct::TakeStatus => {
                 self.go_on(ring, message.further(Stage::Data, second, message.taken))
@@ -108,8 +123,10 @@ impl Core {
 
     // A word from the bus.
     pub fn word(self, ring: Ring, places: &mut [u16; 256], ram: &mut [u16], word: Word) -> Held
-        ensures { λ held. ⌜ card (held .core) (queue (now (places .exit)) (held .ring)) (now (ram .exit))
-            ≡ wordStep word (card self (queue (now (places .entry)) ring) (now (ram .entry))) .card ⌝ }
+        ensures { λ held. ⌜ card (held .core)
+            (queue (now (places .exit)) (held .ring)) (now (ram .exit))
+            ≡ wordStep word
+            (card self (queue (now (places .entry)) ring) (now (ram .entry))) .card ⌝ }
     {
         let message = self.message;
         match message {

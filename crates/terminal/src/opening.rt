@@ -3,16 +3,28 @@ ghost use mathlib.Core.Path.{_≡_};
 ghost use mathlib.Core.Bool.{cond};
 ghost use Rattle.terminal.specs.declared.state.Stage.the-variants.{Data, Skipping};
 ghost use Rattle.card.specs.TableWord.{blockOf};
-ghost use Rattle.terminal.specs.Opening.{busyAt, openedMessage, openedStatus, openedCore, openedAt};
+ghost use Rattle.terminal.specs.Opening.{
+  busyAt,
+  openedMessage,
+  openedStatus,
+  openedCore,
+  openedAt,
+};
+use crate::format;
+use crate::format::Format;
+use crate::state::Core;
+use crate::state::Message;
+use crate::state::OpenMessage;
+use crate::state::Second;
+use crate::state::Stage;
+use crate::state::Word;
 use bus::kind;
 use bus::kind::Kind;
 use bus::status::Status;
 use card::memory;
-use card::place::{Block, Cell};
+use card::place::Block;
+use card::place::Cell;
 use card::table;
-use crate::format;
-use crate::format::Format;
-use crate::state::{Core, Message, OpenMessage, Second, Stage, Word};
 
 // Busy: flag 1 or, with a block, the table word's bit 15.
 fn busy_at(format: Format, flags: u16, entry: u16) -> bool
@@ -35,17 +47,15 @@ fn block_at(format: Format, entry: u16) -> u16
 fn stage_at(illegal: bool) -> Stage
     ensures { λ stage. ⌜ stage ≡ cond illegal Skipping Data ⌝ }
 {
-    if illegal { Stage::Skipping } else { Stage::Data }
+    if illegal {
+        Stage::Skipping
+    } else {
+        Stage::Data
+    }
 }
 
 // The message that a word opens, with what the opening fixes.
-fn opened_message(
-    kind: Kind,
-    format: Format,
-    entry: u16,
-    word: Word,
-    core: Core,
-) -> OpenMessage
+fn opened_message(kind: Kind, format: Format, entry: u16, word: Word, core: Core) -> OpenMessage
     ensures { λ message. ⌜ message ≡ openedMessage kind format entry word core ⌝ }
 {
     let block = block_at(format, entry);
@@ -78,7 +88,14 @@ fn opened_status(kind: Kind, format: Format, entry: u16, word: Word, core: Core)
         return core.status;
     }
     let busy = busy_at(format, core.flags, entry);
-    let status = Status::caught(core.station, kind, word.value, core.flags, busy, core.inhibit);
+    let status = Status::caught(
+        core.station,
+        kind,
+        word.value,
+        core.flags,
+        busy,
+        core.inhibit,
+    );
     status.word()
 }
 
