@@ -6,9 +6,22 @@ use Prim.Native.Nat.{ℕ, _+_, _≤_, _<_}
 use native.Mathlib.Nat.{add-zero}
 use native.Mathlib.Numerals.{add-one}
 use native.Mathlib.Omega.{arith}
-use lib.ListN.{length, getD, set, drop, drop-of-length-le}
-use lib.Seq.{sets, drop-cons}
+use lib.ListN.{length, getD, set, drop, drop-of-length-le, length-set}
+use lib.Seq.{sets, drop-cons, set-out}
 use Rattle.card.specs.Host.{Done, done}
+
+-- ---- one word
+
+-- past the end of memory nothing is stored
+pub stored-past : (ram : List ℕ) (address word : ℕ) → length ram ≤ address
+    → ram ≡ set ram address word
+stored-past ram address word past = sym (set-out ram address word past)
+
+-- a store keeps memory as long as it was
+pub stored-long : (ram ram′ : List ℕ) (address word size : ℕ)
+    → ram′ ≡ set ram address word → length ram ≡ size → length ram′ ≡ size
+stored-long ram ram′ address word size stored long =
+    ap length stored ∙ length-set ram address word ∙ long
 
 -- ---- the loop
 
@@ -22,14 +35,15 @@ module _ (ram : List ℕ) (address : ℕ) (words : List ℕ) where
 
 module _ {wanted ram : List ℕ} {address : ℕ} {words : List ℕ} {word : ℕ}
     (left : Left wanted ram address words word) where
-  pub left-less : word < length words
-      → Left wanted (set ram (address + word) (getD words word 0)) address words (word + 1)
-  left-less inside =
+  pub left-less : (ram′ : List ℕ) → word < length words
+      → ram′ ≡ set ram (address + word) (getD words word 0)
+      → Left wanted ram′ address words (word + 1)
+  left-less ram′ inside stored =
       let next : address + (word + 1) ≡ address + word + 1 = omega arith in
       record {
         leads =
             left .leads
-            ∙ rw (next, add-one word, add-one (address + word), drop-cons words word 0 inside);
+            ∙ rw (stored, next, add-one word, add-one (address + word), drop-cons words word 0 inside);
       }
 
   pub left-none : length words ≤ word → ram ≡ wanted

@@ -1,19 +1,27 @@
 // The host's write of words to card memory.
 ghost use mathlib.Core.Path.{_≡_};
-ghost use Prim.Native.Nat.{_+_, _≤_};
-ghost use lib.ListN.{length};
+ghost use lib.ListN.{set};
 ghost use lib.Seq.{sets};
 ghost use Rattle.card.specs.Host.{done, hostWrite};
 use crate::place::CARD_WORDS;
 
-// Stores the words from an address on.
-fn write_words(ram: &mut [u16], address: usize, words: &[u16])
-    requires { ⌜ address + length (now words) ≤ length (now ram) ⌝ }
+// Stores a word at an address. Past the end of memory nothing is stored.
+fn put_word(ram: &mut [u16], address: usize, word: u16)
+    ensures { λ _. ⌜ now (ram .exit) ≡ set (now (ram .entry)) address word ⌝ }
+{
+    if address < ram.len() {
+        ram[address] = word;
+    }
+}
+
+// Stores the words from an address on, as far as memory goes.
+pub fn write_words(ram: &mut [u16], address: u16, words: &[u16])
     ensures { λ _. ⌜ now (ram .exit) ≡ sets (now (ram .entry)) address (now (words .entry)) ⌝ }
 {
+    let first = address as usize;
     let mut word: usize = 0;
     while word < words.len() {
-        ram[address + word] = words[word];
+        put_word(ram, first + word, words[word]);
         word += 1;
     }
 }
@@ -36,6 +44,6 @@ pub fn write(ram: &mut [u16], address: u16, words: &[u16]) -> u8
     if first + words.len() > CARD_WORDS {
         return 8;
     }
-    write_words(ram, first, words);
+    write_words(ram, address, words);
     0
 }

@@ -29,6 +29,7 @@ use Rattle.terminal.specs.declared.state.Message.the-variants.{Idle, Ope
 use Rattle.terminal.specs.declared.state.Core.{Core}
 use Rattle.terminal.specs.declared.state.Terminal.{Terminal}
 use Rattle.terminal.specs.declared.state.Word.{Word}
+use Rattle.terminal.specs.declared.state.Answer.{Answer}
 use Rattle.terminal.specs.declared.state.Reply.{Reply}
 use Rattle.terminal.specs.declared.state.Reply.the-variants.{Silent}
 use Rattle.terminal.specs.State.{
@@ -41,23 +42,7 @@ use Rattle.terminal.specs.State.{
 }
 use Rattle.terminal.specs.Opening.{ownCommand}
 use Rattle.terminal.specs.Words.{onWord}
-use Rattle.terminal.specs.Event.{
-  Event,
-  word,
-  silence,
-  hostWrite,
-  tableMove,
-  flagsWrite,
-  Answer,
-  replied,
-  queueWord,
-  Outcome,
-  Shown,
-  shown,
-  seen,
-  opens,
-  quietly,
-}
+use Rattle.terminal.specs.Event.{Event, word, silence, hostWrite, tableMove, flagsWrite, replied, queueWord, Outcome, Shown, shown, seen, opens, quietly}
 use Rattle.terminal.specs.WordStep.{wordDone, wordMet, wordStep}
 use Rattle.terminal.specs.SilenceStep.{silenceStep}
 use Rattle.terminal.specs.Machine.{

@@ -10,21 +10,10 @@ use Rattle.card.specs.Memory.{cardWords}
 use Rattle.terminal.specs.declared.actions.Done.{Done}
 use Rattle.terminal.specs.declared.state.Terminal.{Terminal}
 use Rattle.terminal.specs.declared.state.Word.{Word}
+use Rattle.terminal.specs.declared.state.Answer.{Answer}
 use Rattle.terminal.specs.declared.state.Reply.the-variants.{Silent}
 use Rattle.terminal.specs.State.{Card, card, terminal, terminalAtSetup}
-use Rattle.terminal.specs.Event.{
-  Event,
-  word,
-  silence,
-  queueRead,
-  hostWrite,
-  tableMove,
-  flagsWrite,
-  Answer,
-  replied,
-  queueWord,
-  Outcome,
-}
+use Rattle.terminal.specs.Event.{Event, word, silence, queueRead, hostWrite, tableMove, flagsWrite, replied, queueWord, Outcome}
 use Rattle.terminal.specs.Machine.{step}
 use Rattle.terminal.specs.Fitness.{fitTerminal}
 

@@ -7,6 +7,8 @@ use Rattle.terminal.specs.declared.state.OpenMessage.{OpenMessage}
 use Rattle.terminal.specs.declared.state.Message.the-variants.{Open}
 use Rattle.terminal.specs.declared.state.Word.{Word}
 use Rattle.terminal.specs.declared.state.Reply.{Reply}
+use Rattle.terminal.specs.declared.state.Answer.{Answer}
+use Rattle.terminal.specs.declared.state.Answer.the-variants.{Replied, QueueWord}
 use Rattle.terminal.specs.declared.state.Reply.the-variants.{Silent}
 use Rattle.terminal.specs.State.{Card, card, withMessage}
 use Rattle.terminal.specs.Format.{formatOf}
@@ -22,9 +24,11 @@ pub data Event : Type 0 where
   flagsWrite : ℕ → Event
 
 -- what comes back: a reply on the bus, or the word of a queue read
-pub data Answer : Type 0 where
-  replied : Reply → Answer
-  queueWord : ℕ → Answer
+abbrev pub replied : Reply → Answer
+replied reply = Replied reply
+
+abbrev pub queueWord : ℕ → Answer
+queueWord word′ = QueueWord word′
 
 -- whether the event opened a message, and whether that kept the remembered status
 pub data Opened : Type 0 where

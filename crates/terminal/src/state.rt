@@ -98,6 +98,12 @@ pub enum Reply {
     Last { status: u16, command: u16 },
 }
 
+// What an event brings: a reply on the bus, or the word of a queue read.
+pub enum Answer {
+    Replied(Reply),
+    QueueWord(u16),
+}
+
 // What a silence brings: what is held after it, and the reply.
 pub struct Heard {
     pub held: Held,
