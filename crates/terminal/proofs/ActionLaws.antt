@@ -11,8 +11,8 @@ use Rattle.card.specs.Memory.{cardWords}
 use Rattle.card.specs.Host as host
 use Rattle.queue.specs.declared.QueueRead.{QueueRead}
 use Rattle.queue.specs.Queue.{readOf}
-use Rattle.terminal.specs.declared.judge.WordAct.{WordAct}
-use Rattle.terminal.specs.declared.judge.WordAct.the-variants.{
+use Rattle.message.specs.declared.judge.WordAct.{WordAct}
+use Rattle.message.specs.declared.judge.WordAct.the-variants.{
   Ignore,
   Store,
   Check,
@@ -22,54 +22,27 @@ use Rattle.terminal.specs.declared.judge.WordAct.the-variants.{
   Supersede,
   Drop,
 }
-use Rattle.terminal.specs.declared.format.Format.{Format}
-use Rattle.terminal.specs.declared.state.OpenMessage.{OpenMessage}
-use Rattle.terminal.specs.declared.state.Message.{Message}
-use Rattle.terminal.specs.declared.state.Message.the-variants.{Idle, Open}
+use Rattle.message.specs.declared.format.Format.{Format}
+use Rattle.message.specs.declared.state.OpenMessage.{OpenMessage}
+use Rattle.message.specs.declared.state.Message.{Message}
+use Rattle.message.specs.declared.state.Message.the-variants.{Idle, Open}
 use Rattle.terminal.specs.declared.state.Core.{Core}
 use Rattle.terminal.specs.declared.state.Terminal.{Terminal}
-use Rattle.terminal.specs.declared.state.Word.{Word}
+use Rattle.message.specs.declared.state.Word.{Word}
 use Rattle.terminal.specs.declared.state.Answer.{Answer}
 use Rattle.terminal.specs.declared.state.Reply.{Reply}
 use Rattle.terminal.specs.declared.state.Reply.the-variants.{Silent}
-use Rattle.terminal.specs.State.{
-  Card,
-  card,
-  withTable,
-  withFlags,
-  withMessage,
-  movedMessage,
-}
-use Rattle.terminal.specs.Opening.{ownCommand}
-use Rattle.terminal.specs.Words.{onWord}
+use Rattle.terminal.specs.State.{Card, card, withTable, withFlags, withMessage}
+use Rattle.message.specs.Message.{movedMessage}
+use Rattle.message.specs.Words.{ownCommand}
+use Rattle.message.specs.Words.{onWord}
 use Rattle.terminal.specs.Event.{Event, word, silence, hostWrite, tableMove, flagsWrite, replied, queueWord, Outcome, Shown, shown, seen, opens, quietly}
 use Rattle.terminal.specs.WordStep.{wordDone, wordMet, wordStep}
 use Rattle.terminal.specs.SilenceStep.{silenceStep}
-use Rattle.terminal.specs.Machine.{
-  step,
-  queueReadStep,
-  hostWriteStep,
-  tableMoveStep,
-  flagsWriteStep,
-}
-use Rattle.terminal.specs.Fitness.{fitOpen, fitMessage, fitTerminal}
-use Rattle.terminal.specs.Actions.{
-  After,
-  after,
-  took,
-  alone,
-  wordOf,
-  withMemory,
-  withoutMemory,
-  readQueueAction,
-  settled,
-}
-
--- ---- fitness of a message, where one is open
-
-pub open-is-fit : (message : Message) (held : OpenMessage) (station : ℕ) (fit : Bool)
-    → message ≡ Open held → fit ≡ fitOpen station held → fit ≡ fitMessage message station
-open-is-fit message held station fit is same = rw is same
+use Rattle.terminal.specs.Machine.{step, queueReadStep, hostWriteStep, tableMoveStep, flagsWriteStep}
+use Rattle.message.specs.Fitness.{fitOpen, fitMessage}
+use Rattle.terminal.specs.Fitness.{fitTerminal}
+use Rattle.terminal.specs.Actions.{After, after, took, alone, wordOf, withMemory, withoutMemory, readQueueAction, settled}
 
 -- ---- a word brings no reply
 
@@ -232,10 +205,6 @@ pub settled-with : (refusal : ℕ) (given same : Terminal)
 settled-with refusal given same is = rw is
 
 -- ---- the core, by the host's actions
-
-pub moved-open : (message : Message) (held : OpenMessage) → message ≡ Open held
-    → movedMessage (Open held) ≡ movedMessage message
-moved-open message held is = rw is
 
 pub table-moved : (old core : Core) (message : Message) (table : ℕ)
     → message ≡ movedMessage (old .message) → core ≡ withMessage message old

@@ -9,23 +9,12 @@ use Rattle.bus.specs.Status.{withError}
 use Rattle.card.specs.Memory.{withService, withLink}
 use Rattle.card.specs.Time.{ticksOf}
 use Rattle.queue.specs.declared.Queue.{Queue}
-use Rattle.terminal.specs.declared.format.Format.{Format}
-use Rattle.terminal.specs.declared.state.OpenMessage.{OpenMessage}
+use Rattle.message.specs.declared.format.Format.{Format}
+use Rattle.message.specs.declared.state.OpenMessage.{OpenMessage}
 use Rattle.terminal.specs.declared.state.Core.{Core}
 use Rattle.terminal.specs.declared.state.Reply.the-variants.{Silent, Status, Words, Last}
 use Rattle.terminal.specs.State.{Card, card, withStatus}
-use Rattle.terminal.specs.Closing.{
-  unlessBusy,
-  stateOf,
-  closedRam,
-  closing,
-  faulted,
-  replies,
-  replyOf,
-  switched,
-  endWords,
-  ended,
-}
+use Rattle.terminal.specs.Closing.{unlessBusy, stateOf, closedRam, closing, faulted, replies, replyOf, switched, endWords, ended}
 
 -- ---- memory, on each way
 

@@ -10,24 +10,18 @@ use Rattle.card.specs.Memory.{cellAt}
 use Rattle.queue.specs.declared.Queue.{Queue}
 use Rattle.queue.specs.Queue.{withJoined, fitQueue}
 use Rattle.queue.proofs.FitLaws.{join-keeps-fit}
-use Rattle.terminal.specs.declared.format.Format.{Format}
-use Rattle.terminal.specs.declared.state.OpenMessage.{OpenMessage}
-use Rattle.terminal.specs.declared.state.Message.{Message}
-use Rattle.terminal.specs.declared.state.Message.the-variants.{Idle, Open}
+use Rattle.message.specs.declared.format.Format.{Format}
+use Rattle.message.specs.declared.state.OpenMessage.{OpenMessage}
+use Rattle.message.specs.declared.state.Message.{Message}
+use Rattle.message.specs.declared.state.Message.the-variants.{Idle, Open}
 use Rattle.terminal.specs.declared.state.Core.{Core}
-use Rattle.terminal.specs.declared.state.Word.{Word}
-use Rattle.terminal.specs.State.{
-  Card,
-  card,
-  withStatus,
-  withLast,
-  withSwitches,
-  withMessage,
-}
-use Rattle.terminal.specs.Format.{formatOf}
+use Rattle.message.specs.declared.state.Word.{Word}
+use Rattle.terminal.specs.State.{Card, card, withStatus, withLast, withSwitches, withMessage}
+use Rattle.message.specs.Format.{formatOf}
 use Rattle.terminal.specs.Opening.{openedMessage, openedCore, opening}
 use Rattle.terminal.specs.Closing.{closedQueue, closing, faulted, ended}
-use Rattle.terminal.specs.Fitness.{fitMessage, fitCore}
+use Rattle.message.specs.Fitness.{fitMessage}
+use Rattle.terminal.specs.Fitness.{fitCore}
 use Rattle.terminal.proofs.FitParts.{
   addressed,
   FitOpen,

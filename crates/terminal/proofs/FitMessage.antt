@@ -10,23 +10,23 @@ use borrow.Author.Tests.{leb-false}
 use Rattle.rules.proofs.Cases.{both}
 use Rattle.bus.specs.Kind.{kindOf, isIllegal}
 use Rattle.card.specs.TableWord.{blockOf}
-use Rattle.terminal.specs.declared.state.Stage.the-variants.{
+use Rattle.message.specs.declared.state.Stage.the-variants.{
   Data,
   SecondCommand,
   AwaitingStatus,
   Skipping,
 }
-use Rattle.terminal.specs.declared.state.Second.the-variants.{Absent, Command}
-use Rattle.terminal.specs.declared.state.OpenMessage.{OpenMessage}
-use Rattle.terminal.specs.declared.state.Message.{Message}
-use Rattle.terminal.specs.declared.state.Message.the-variants.{Idle, Open}
+use Rattle.message.specs.declared.state.Second.the-variants.{Absent, Command}
+use Rattle.message.specs.declared.state.OpenMessage.{OpenMessage}
+use Rattle.message.specs.declared.state.Message.{Message}
+use Rattle.message.specs.declared.state.Message.the-variants.{Idle, Open}
 use Rattle.terminal.specs.declared.state.Core.{Core}
-use Rattle.terminal.specs.declared.state.Word.{Word}
-use Rattle.terminal.specs.State.{further, movedMessage}
-use Rattle.terminal.specs.Format.{formatOf}
+use Rattle.message.specs.declared.state.Word.{Word}
+use Rattle.message.specs.Message.{further, movedMessage}
+use Rattle.message.specs.Format.{formatOf}
 use Rattle.terminal.specs.Opening.{openedMessage}
-use Rattle.terminal.specs.Words.{isSecond}
-use Rattle.terminal.specs.Fitness.{fitStage, fitOpen, fitMessage}
+use Rattle.message.specs.Words.{isSecond}
+use Rattle.message.specs.Fitness.{fitStage, fitOpen, fitMessage}
 use Rattle.terminal.proofs.FitParts.{addressed, isLegal, InStage, FitOpen}
 
 -- ---- the message that a word opens

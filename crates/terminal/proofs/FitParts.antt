@@ -9,20 +9,14 @@ use Rattle.rules.proofs.Halves.{first-of-both, second-of-both}
 use Rattle.bus.specs.Command.{addressOf, isBroadcast}
 use Rattle.bus.specs.Kind.{kindOf, isIllegal}
 use Rattle.queue.specs.Queue.{fitQueue}
-use Rattle.terminal.specs.declared.state.Stage.{Stage}
-use Rattle.terminal.specs.declared.state.OpenMessage.{OpenMessage}
-use Rattle.terminal.specs.declared.state.Message.the-variants.{Open}
+use Rattle.message.specs.declared.state.Stage.{Stage}
+use Rattle.message.specs.declared.state.OpenMessage.{OpenMessage}
+use Rattle.message.specs.declared.state.Message.the-variants.{Open}
 use Rattle.terminal.specs.declared.state.Core.{Core}
 use Rattle.terminal.specs.State.{Card}
-use Rattle.terminal.specs.Format.{formatOf}
-use Rattle.terminal.specs.Fitness.{
-  fitSecond,
-  fitStage,
-  fitOpen,
-  fitMessage,
-  fitCore,
-  fitTerminal,
-}
+use Rattle.message.specs.Format.{formatOf}
+use Rattle.message.specs.Fitness.{fitSecond, fitStage, fitOpen, fitMessage}
+use Rattle.terminal.specs.Fitness.{fitCore, fitTerminal}
 use Rattle.terminal.specs.Actions.{fitCard}
 
 -- ---- an open message

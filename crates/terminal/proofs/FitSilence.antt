@@ -3,23 +3,23 @@ use mathlib.Core.Path.{_≡_}
 use mathlib.Core.Bool.{Bool, true, false, cond, not, Bool·beq}
 use Prim.Native.Nat.{ℕ}
 use lib.Dec.{ltb}
-use Rattle.terminal.specs.declared.format.Format.{Format}
-use Rattle.terminal.specs.declared.judge.SilenceAct.the-variants.{Ignore, Fault, End}
-use Rattle.terminal.specs.declared.state.Stage.{Stage}
-use Rattle.terminal.specs.declared.state.Stage.the-variants.{
+use Rattle.message.specs.declared.format.Format.{Format}
+use Rattle.message.specs.declared.judge.SilenceAct.the-variants.{Ignore, Fault, End}
+use Rattle.message.specs.declared.state.Stage.{Stage}
+use Rattle.message.specs.declared.state.Stage.the-variants.{
   Data,
   SecondCommand,
   AwaitingStatus,
   Skipping,
 }
-use Rattle.terminal.specs.declared.state.OpenMessage.{OpenMessage}
-use Rattle.terminal.specs.declared.state.Message.{Message}
-use Rattle.terminal.specs.declared.state.Message.the-variants.{Idle, Open}
+use Rattle.message.specs.declared.state.OpenMessage.{OpenMessage}
+use Rattle.message.specs.declared.state.Message.{Message}
+use Rattle.message.specs.declared.state.Message.the-variants.{Idle, Open}
 use Rattle.terminal.specs.State.{Card}
-use Rattle.terminal.specs.Format.{formatOf}
-use Rattle.terminal.specs.Silence.{silenceInStage, onSilence}
+use Rattle.message.specs.Format.{formatOf}
+use Rattle.message.specs.Silence.{silenceInStage, onSilence}
 use Rattle.terminal.specs.SilenceStep.{silenceDone, silenceMet}
-use Rattle.terminal.specs.Fitness.{fitMessage}
+use Rattle.message.specs.Fitness.{fitMessage}
 use Rattle.terminal.proofs.FitParts.{InStage, FitOpen, fit-open-parts, FitCard}
 use Rattle.terminal.proofs.FitMessage.{fits-awaiting}
 use Rattle.terminal.proofs.FitChanges.{fit-going-on, fit-faulted, fit-ended}

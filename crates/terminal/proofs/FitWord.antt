@@ -8,8 +8,8 @@ use lib.Dec.{eqb}
 use Rattle.rules.proofs.Cases.{at-first}
 use Rattle.rules.proofs.Halves.{first-of-both, second-of-both}
 use Rattle.bus.specs.Command.{addressOf, isBroadcast}
-use Rattle.terminal.specs.declared.judge.WordAct.{WordAct}
-use Rattle.terminal.specs.declared.judge.WordAct.the-variants.{
+use Rattle.message.specs.declared.judge.WordAct.{WordAct}
+use Rattle.message.specs.declared.judge.WordAct.the-variants.{
   Ignore,
   Store,
   Check,
@@ -19,35 +19,27 @@ use Rattle.terminal.specs.declared.judge.WordAct.the-variants.{
   Supersede,
   Drop,
 }
-use Rattle.terminal.specs.declared.state.Stage.{Stage}
-use Rattle.terminal.specs.declared.state.Stage.the-variants.{
+use Rattle.message.specs.declared.state.Stage.{Stage}
+use Rattle.message.specs.declared.state.Stage.the-variants.{
   Data,
   SecondCommand,
   AwaitingStatus,
   Skipping,
 }
-use Rattle.terminal.specs.declared.state.Second.the-variants.{Command}
-use Rattle.terminal.specs.declared.state.OpenMessage.{OpenMessage}
-use Rattle.terminal.specs.declared.state.Message.{Message}
-use Rattle.terminal.specs.declared.state.Message.the-variants.{Idle, Open}
-use Rattle.terminal.specs.declared.state.Word.{Word}
-use Rattle.terminal.specs.State.{Card, withStatus, withMessage, further, hasSecond}
-use Rattle.terminal.specs.Format.{formatOf}
-use Rattle.terminal.specs.Opening.{ownCommand}
-use Rattle.terminal.specs.Words.{
-  asksForData,
-  dropsBroadcast,
-  isSecond,
-  inData,
-  inSecondCommand,
-  inAwaitingStatus,
-  wordInStage,
-  onWord,
-}
+use Rattle.message.specs.declared.state.Second.the-variants.{Command}
+use Rattle.message.specs.declared.state.OpenMessage.{OpenMessage}
+use Rattle.message.specs.declared.state.Message.{Message}
+use Rattle.message.specs.declared.state.Message.the-variants.{Idle, Open}
+use Rattle.message.specs.declared.state.Word.{Word}
+use Rattle.terminal.specs.State.{Card, withStatus, withMessage}
+use Rattle.message.specs.Message.{further, hasSecond}
+use Rattle.message.specs.Format.{formatOf}
+use Rattle.message.specs.Words.{ownCommand}
+use Rattle.message.specs.Words.{asksForData, dropsBroadcast, isSecond, inData, inSecondCommand, inAwaitingStatus, wordInStage, onWord}
 use Rattle.terminal.specs.Closing.{closing, faulted}
 use Rattle.terminal.specs.Event.{opens, quietly}
 use Rattle.terminal.specs.WordStep.{wordDone, wordMet}
-use Rattle.terminal.specs.Fitness.{fitMessage}
+use Rattle.message.specs.Fitness.{fitMessage}
 use Rattle.terminal.proofs.FitParts.{
   addressed,
   isLegal,

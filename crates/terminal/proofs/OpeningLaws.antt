@@ -11,10 +11,10 @@ use Rattle.bus.specs.Status.{statusWord, caughtStatus}
 use Rattle.card.specs.declared.place.Block.{Block}
 use Rattle.card.specs.Memory.{cellAt}
 use Rattle.card.specs.TableWord.{blockOf}
-use Rattle.terminal.specs.declared.format.Format.{Format}
-use Rattle.terminal.specs.declared.state.Word.{Word}
+use Rattle.message.specs.declared.format.Format.{Format}
+use Rattle.message.specs.declared.state.Word.{Word}
 use Rattle.terminal.specs.declared.state.Core.{Core}
-use Rattle.terminal.specs.Format.{formatBy}
+use Rattle.message.specs.Format.{formatBy}
 use Rattle.terminal.specs.Opening.{busyAt, openedStatus, openedCore, openedAt}
 
 -- ---- the block

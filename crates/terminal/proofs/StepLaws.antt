@@ -9,31 +9,33 @@ use Rattle.bus.specs.Kind.{kindOf}
 use Rattle.card.specs.Memory.{withCell}
 use Rattle.queue.specs.declared.Ring.{Ring}
 use Rattle.queue.specs.Queue.{queue}
-use Rattle.terminal.specs.declared.format.Format.{Format}
-use Rattle.terminal.specs.declared.judge.WordAct.{WordAct}
-use Rattle.terminal.specs.declared.judge.WordAct.the-variants as word-acts
-use Rattle.terminal.specs.declared.judge.SilenceAct.{SilenceAct}
-use Rattle.terminal.specs.declared.judge.SilenceAct.the-variants as silence-acts
-use Rattle.terminal.specs.declared.state.Stage.the-variants.{
+use Rattle.message.specs.declared.format.Format.{Format}
+use Rattle.message.specs.declared.judge.WordAct.{WordAct}
+use Rattle.message.specs.declared.judge.WordAct.the-variants as word-acts
+use Rattle.message.specs.declared.judge.SilenceAct.{SilenceAct}
+use Rattle.message.specs.declared.judge.SilenceAct.the-variants as silence-acts
+use Rattle.message.specs.declared.state.Stage.the-variants.{
   Data,
   SecondCommand,
   AwaitingStatus,
 }
-use Rattle.terminal.specs.declared.state.Second.the-variants.{Command}
-use Rattle.terminal.specs.declared.state.OpenMessage.{OpenMessage}
-use Rattle.terminal.specs.declared.state.Message.{Message}
-use Rattle.terminal.specs.declared.state.Message.the-variants.{Idle, Open}
+use Rattle.message.specs.declared.state.Second.the-variants.{Command}
+use Rattle.message.specs.declared.state.OpenMessage.{OpenMessage}
+use Rattle.message.specs.declared.state.Message.{Message}
+use Rattle.message.specs.declared.state.Message.the-variants.{Idle, Open}
 use Rattle.terminal.specs.declared.state.Core.{Core}
 use Rattle.terminal.specs.declared.state.Held.{Held}
 use Rattle.terminal.specs.declared.state.Heard.{Heard}
 use Rattle.terminal.specs.declared.state.Reply.{Reply}
 use Rattle.terminal.specs.declared.state.Reply.the-variants.{Silent}
-use Rattle.terminal.specs.declared.state.Word.{Word}
-use Rattle.terminal.specs.State.{Card, card, withMessage, further}
-use Rattle.terminal.specs.Format.{formatBy}
-use Rattle.terminal.specs.Opening.{ownCommand, openedAt, opening}
-use Rattle.terminal.specs.Words.{onWord}
-use Rattle.terminal.specs.Silence.{onSilence}
+use Rattle.message.specs.declared.state.Word.{Word}
+use Rattle.terminal.specs.State.{Card, card, withMessage}
+use Rattle.message.specs.Message.{further}
+use Rattle.message.specs.Format.{formatBy}
+use Rattle.message.specs.Words.{ownCommand}
+use Rattle.terminal.specs.Opening.{openedAt, opening}
+use Rattle.message.specs.Words.{onWord}
+use Rattle.message.specs.Silence.{onSilence}
 use Rattle.terminal.specs.Closing.{faulted, ended, replyOf}
 use Rattle.terminal.specs.Event.{Shown, shown, seen, replied}
 use Rattle.terminal.specs.WordStep.{wordDone, wordMet, wordStep}

@@ -9,7 +9,7 @@ use Rattle.bits.specs.Bit.{hasBit}
 use Rattle.card.specs.Memory.{cardWords}
 use Rattle.terminal.specs.declared.actions.Done.{Done}
 use Rattle.terminal.specs.declared.state.Terminal.{Terminal}
-use Rattle.terminal.specs.declared.state.Word.{Word}
+use Rattle.message.specs.declared.state.Word.{Word}
 use Rattle.terminal.specs.declared.state.Answer.{Answer}
 use Rattle.terminal.specs.declared.state.Reply.the-variants.{Silent}
 use Rattle.terminal.specs.State.{Card, card, terminal, terminalAtSetup}

@@ -11,21 +11,15 @@ use Rattle.card.specs.StateWord.{stateWord}
 use Rattle.card.specs.Time.{ticksOf}
 use Rattle.queue.specs.declared.Queue.{Queue}
 use Rattle.queue.specs.Queue.{withJoined}
-use Rattle.terminal.specs.declared.format.Format.{Format}
+use Rattle.message.specs.declared.format.Format.{Format}
 use Rattle.terminal.specs.declared.state.Shut.{Shut}
-use Rattle.terminal.specs.declared.state.OpenMessage.{OpenMessage}
-use Rattle.terminal.specs.declared.state.Message.the-variants.{Idle}
+use Rattle.message.specs.declared.state.OpenMessage.{OpenMessage}
+use Rattle.message.specs.declared.state.Message.the-variants.{Idle}
 use Rattle.terminal.specs.declared.state.Core.{Core}
 use Rattle.terminal.specs.declared.state.Reply.{Reply}
 use Rattle.terminal.specs.declared.state.Reply.the-variants.{Silent, Status, Words, Last}
-use Rattle.terminal.specs.State.{
-  Card,
-  card,
-  withStatus,
-  withSwitches,
-  withMessage,
-  hasSecond,
-}
+use Rattle.terminal.specs.State.{Card, card, withStatus, withSwitches, withMessage}
+use Rattle.message.specs.Message.{hasSecond}
 
 -- ---- the state word
 

@@ -2,16 +2,16 @@
 use mathlib.Core.Bool.{Bool, cond}
 use mathlib.Core.List.{List}
 use Prim.Native.Nat.{ℕ}
-use Rattle.terminal.specs.declared.format.Format.{Format}
-use Rattle.terminal.specs.declared.state.OpenMessage.{OpenMessage}
-use Rattle.terminal.specs.declared.state.Message.the-variants.{Open}
-use Rattle.terminal.specs.declared.state.Word.{Word}
+use Rattle.message.specs.declared.format.Format.{Format}
+use Rattle.message.specs.declared.state.OpenMessage.{OpenMessage}
+use Rattle.message.specs.declared.state.Message.the-variants.{Open}
+use Rattle.message.specs.declared.state.Word.{Word}
 use Rattle.terminal.specs.declared.state.Reply.{Reply}
 use Rattle.terminal.specs.declared.state.Answer.{Answer}
 use Rattle.terminal.specs.declared.state.Answer.the-variants.{Replied, QueueWord}
 use Rattle.terminal.specs.declared.state.Reply.the-variants.{Silent}
 use Rattle.terminal.specs.State.{Card, card, withMessage}
-use Rattle.terminal.specs.Format.{formatOf}
+use Rattle.message.specs.Format.{formatOf}
 use Rattle.terminal.specs.Opening.{opening}
 
 -- words and silences of the bus, and the host's actions

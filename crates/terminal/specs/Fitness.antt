@@ -1,60 +1,13 @@
 -- Refusal 4: which states are fit. Document 01's list, clause by clause; what is not on the list is
 -- free. Definitions only. Assumes nothing.
-use mathlib.Core.Bool.{Bool, true, cond, not, _&&_, _||_}
-use Prim.Native.Nat.{ℕ}
-use lib.Dec.{eqb, leb}
-use Rattle.bus.specs.Command.{addressOf, isBroadcast}
-use Rattle.bus.specs.Kind.{kindOf, isIllegal}
+use mathlib.Core.Bool.{Bool, _&&_}
+use lib.Dec.{leb}
+use Rattle.message.specs.Fitness.{fitMessage}
 use Rattle.queue.specs.Queue.{fitQueue}
-use Rattle.terminal.specs.declared.format.Format.{Format}
-use Rattle.terminal.specs.declared.state.Stage.{Stage}
-use Rattle.terminal.specs.declared.state.Stage.the-variants.{
-  Data,
-  SecondCommand,
-  AwaitingStatus,
-  Skipping,
-}
-use Rattle.terminal.specs.declared.state.Second.{Second}
-use Rattle.terminal.specs.declared.state.Second.the-variants.{Absent, Command}
-use Rattle.terminal.specs.declared.state.OpenMessage.{OpenMessage}
-use Rattle.terminal.specs.declared.state.Message.{Message}
-use Rattle.terminal.specs.declared.state.Message.the-variants.{Idle, Open}
 use Rattle.terminal.specs.declared.state.Core.{Core}
 use Rattle.terminal.specs.declared.state.Terminal.{Terminal}
-use Rattle.terminal.specs.State.{hasSecond}
-use Rattle.terminal.specs.Format.{formatBy}
-use Rattle.terminal.specs.Words.{isSecond}
 
--- after a second command only data receives, that command as rule 6 takes it
-abbrev pub fitSecond : Second → ℕ → ℕ → Bool → Bool
-fitSecond Absent station command receive = true
-fitSecond (Command value) station command receive = receive && isSecond station command value
-
--- a stage that its command can reach: skipping exactly for illegal commands; the second command and
--- the awaiting only with a second command, and no words before the answer
-abbrev pub fitStage : Stage → Bool → Second → ℕ → Bool
-fitStage Data illegal second taken = not illegal
-fitStage SecondCommand illegal second taken = not illegal && hasSecond second && eqb taken 0
-fitStage AwaitingStatus illegal second taken = not illegal && hasSecond second && eqb taken 0
-fitStage Skipping illegal second taken = illegal
-
--- the open command's address is the station or 31; its block and table block are at most 255; words
--- taken are at most those it wants; and its stage
-unfoldable pub fitOpen : ℕ → OpenMessage → Bool
-fitOpen station message =
-    (eqb (addressOf (message .command)) station || isBroadcast (message .command))
-    && leb (message .block) 255
-    && leb (message .home) 255
-    && leb (message .taken) (formatBy (kindOf (message .command)) (message .command) .takes)
-    && fitSecond (message .second) station (message .command)
-    (formatBy (kindOf (message .command)) (message .command) .receive)
-    && fitStage (message .stage) (isIllegal (kindOf (message .command))) (message .second)
-    (message .taken)
-
-abbrev pub fitMessage : Message → ℕ → Bool
-fitMessage Idle station = true
-fitMessage (Open message) station = fitOpen station message
-
+-- station, table and flags as setup takes them, and the open message, where there is one
 unfoldable pub fitCore : Core → Bool
 fitCore core =
     leb (core .station) 30 && leb (core .table) 255 && leb (core .flags) 63

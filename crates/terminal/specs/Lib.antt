@@ -1,9 +1,7 @@
--- The terminal of document 01, in its order. Lay it beside the paper, file by file.
+-- The terminal of document 01, in its order; its open message is in the crate `message`. Lay it
+-- beside the paper, file by file.
 --     State          what is held, a setter for each field, setup
---     Format         what each kind of command asks of the card
---     Opening        own commands, and what an opening does
---     Words          rules 1 to 8: what is to be done
---     Silence        silence: what is to be done
+--     Opening        what an opening does
 --     Closing        closing, faults, and the sound end
 --     Event          what happens to the terminal, and what comes of it
 --     WordStep       what rules 1 to 8 decide is done
@@ -12,10 +10,7 @@
 --     Fitness        refusal 4: which states are fit
 --     Actions        the actions of the library, refusals included
 pub mod State
-pub mod Format
 pub mod Opening
-pub mod Words
-pub mod Silence
 pub mod Closing
 pub mod Event
 pub mod WordStep

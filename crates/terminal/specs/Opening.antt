@@ -10,22 +10,15 @@ use Rattle.bus.specs.Kind.{kindOf, isIllegal}
 use Rattle.bus.specs.Status.{statusWord, caughtStatus}
 use Rattle.card.specs.Memory.{cellAt}
 use Rattle.card.specs.TableWord.{isBusy, wantsQueue, blockOf}
-use Rattle.terminal.specs.declared.format.Format.{Format}
-use Rattle.terminal.specs.declared.state.Stage.the-variants.{Data, Skipping}
-use Rattle.terminal.specs.declared.state.Second.the-variants.{Absent}
-use Rattle.terminal.specs.declared.state.OpenMessage.{OpenMessage}
-use Rattle.terminal.specs.declared.state.Message.the-variants.{Open}
+use Rattle.message.specs.declared.format.Format.{Format}
+use Rattle.message.specs.declared.state.Stage.the-variants.{Data, Skipping}
+use Rattle.message.specs.declared.state.Second.the-variants.{Absent}
+use Rattle.message.specs.declared.state.OpenMessage.{OpenMessage}
+use Rattle.message.specs.declared.state.Message.the-variants.{Open}
 use Rattle.terminal.specs.declared.state.Core.{Core}
-use Rattle.terminal.specs.declared.state.Word.{Word}
+use Rattle.message.specs.declared.state.Word.{Word}
 use Rattle.terminal.specs.State.{Card, card, withStatus, withLast, withMessage}
-use Rattle.terminal.specs.Format.{formatBy}
-
--- an own command: sound, command sync, address = station, or 31 with broadcast enabled, flag 0
-unfoldable pub ownCommand : ℕ → ℕ → Word → Bool
-ownCommand station flags word =
-    word .sound && word .sync
-    && (eqb (addressOf (word .value)) station
-    || (isBroadcast (word .value) && eqb (flags % 2) 1))
+use Rattle.message.specs.Format.{formatBy}
 
 -- busy: flag 1 or, with a block, the table word's bit 15
 abbrev pub busyAt : Format → ℕ → ℕ → Bool

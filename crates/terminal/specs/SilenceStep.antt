@@ -1,21 +1,22 @@
 -- A silence: what it decides is done. Definitions only. Assumes nothing.
 use mathlib.Core.Bool.{Bool}
 use Prim.Native.Nat.{ℕ}
-use Rattle.terminal.specs.declared.format.Format.{Format}
-use Rattle.terminal.specs.declared.judge.SilenceAct.{SilenceAct}
-use Rattle.terminal.specs.declared.judge.SilenceAct.the-variants.{
+use Rattle.message.specs.declared.format.Format.{Format}
+use Rattle.message.specs.declared.judge.SilenceAct.{SilenceAct}
+use Rattle.message.specs.declared.judge.SilenceAct.the-variants.{
   Ignore,
   AwaitStatus,
   Fault,
   End,
 }
-use Rattle.terminal.specs.declared.state.Stage.the-variants.{AwaitingStatus}
-use Rattle.terminal.specs.declared.state.OpenMessage.{OpenMessage}
-use Rattle.terminal.specs.declared.state.Message.{Message}
-use Rattle.terminal.specs.declared.state.Message.the-variants.{Idle, Open}
-use Rattle.terminal.specs.State.{Card, further}
-use Rattle.terminal.specs.Format.{formatOf}
-use Rattle.terminal.specs.Silence.{onSilence}
+use Rattle.message.specs.declared.state.Stage.the-variants.{AwaitingStatus}
+use Rattle.message.specs.declared.state.OpenMessage.{OpenMessage}
+use Rattle.message.specs.declared.state.Message.{Message}
+use Rattle.message.specs.declared.state.Message.the-variants.{Idle, Open}
+use Rattle.terminal.specs.State.{Card}
+use Rattle.message.specs.Message.{further}
+use Rattle.message.specs.Format.{formatOf}
+use Rattle.message.specs.Silence.{onSilence}
 use Rattle.terminal.specs.Closing.{faulted, ended, replyOf}
 use Rattle.terminal.specs.Event.{Outcome, replied, none, quietly, goesOn}
 

@@ -5,12 +5,12 @@ use Prim.Native.Nat.{ℕ, _*_, _%_}
 use Rattle.queue.specs.declared.Queue.{Queue}
 use Rattle.queue.specs.Queue.{emptyQueue}
 use Rattle.terminal.specs.declared.state.Shut.{Shut}
-use Rattle.terminal.specs.declared.state.Stage.{Stage}
-use Rattle.terminal.specs.declared.state.Second.{Second}
-use Rattle.terminal.specs.declared.state.Second.the-variants.{Absent, Command}
-use Rattle.terminal.specs.declared.state.OpenMessage.{OpenMessage}
-use Rattle.terminal.specs.declared.state.Message.{Message}
-use Rattle.terminal.specs.declared.state.Message.the-variants.{Idle, Open}
+use Rattle.message.specs.declared.state.Stage.{Stage}
+use Rattle.message.specs.declared.state.Second.{Second}
+use Rattle.message.specs.declared.state.Second.the-variants.{Absent, Command}
+use Rattle.message.specs.declared.state.OpenMessage.{OpenMessage}
+use Rattle.message.specs.declared.state.Message.{Message}
+use Rattle.message.specs.declared.state.Message.the-variants.{Idle, Open}
 use Rattle.terminal.specs.declared.state.Core.{Core}
 use Rattle.terminal.specs.declared.state.Terminal.{Terminal}
 
@@ -105,51 +105,6 @@ withMessage message core =
       inhibit = core .inhibit;
       message = message;
     }
-
--- ---- the open message, further on
-
-unfoldable pub further : Stage → Second → ℕ → OpenMessage → OpenMessage
-further stage second taken message =
-    record {
-      command = message .command;
-      line = message .line;
-      block = message .block;
-      home = message .home;
-      moved = message .moved;
-      busy = message .busy;
-      queued = message .queued;
-      opened = message .opened;
-      taken = taken;
-      second = second;
-      stage = stage;
-    }
-
--- the host has set the table block
-unfoldable pub movedMessage : Message → Message
-movedMessage Idle = Idle
-movedMessage (Open message) =
-    Open (record {
-      command = message .command;
-      line = message .line;
-      block = message .block;
-      home = message .home;
-      moved = true;
-      busy = message .busy;
-      queued = message .queued;
-      opened = message .opened;
-      taken = message .taken;
-      second = message .second;
-      stage = message .stage;
-    })
-
-abbrev pub hasSecond : Second → Bool
-hasSecond Absent = false
-hasSecond (Command value) = true
-
--- 0 where there is none
-abbrev pub secondOf : Second → ℕ
-secondOf Absent = 0
-secondOf (Command value) = value
 
 -- ---- setup: remembered status = station × 2,048 (a station has five bits); all else zero, nothing
 -- open

@@ -1,9 +1,9 @@
 -- A word: what rules 1 to 8 decide is done. Definitions only. Assumes nothing.
 use mathlib.Core.Bool.{cond}
 use Rattle.card.specs.Memory.{withCell}
-use Rattle.terminal.specs.declared.format.Format.{Format}
-use Rattle.terminal.specs.declared.judge.WordAct.{WordAct}
-use Rattle.terminal.specs.declared.judge.WordAct.the-variants.{
+use Rattle.message.specs.declared.format.Format.{Format}
+use Rattle.message.specs.declared.judge.WordAct.{WordAct}
+use Rattle.message.specs.declared.judge.WordAct.the-variants.{
   Ignore,
   Store,
   Check,
@@ -13,16 +13,17 @@ use Rattle.terminal.specs.declared.judge.WordAct.the-variants.{
   Supersede,
   Drop,
 }
-use Rattle.terminal.specs.declared.state.Stage.the-variants.{Data, SecondCommand}
-use Rattle.terminal.specs.declared.state.Second.the-variants.{Command}
-use Rattle.terminal.specs.declared.state.OpenMessage.{OpenMessage}
-use Rattle.terminal.specs.declared.state.Message.{Message}
-use Rattle.terminal.specs.declared.state.Message.the-variants.{Idle, Open}
-use Rattle.terminal.specs.declared.state.Word.{Word}
-use Rattle.terminal.specs.State.{Card, card, withMessage, further}
-use Rattle.terminal.specs.Format.{formatOf}
-use Rattle.terminal.specs.Opening.{ownCommand}
-use Rattle.terminal.specs.Words.{onWord}
+use Rattle.message.specs.declared.state.Stage.the-variants.{Data, SecondCommand}
+use Rattle.message.specs.declared.state.Second.the-variants.{Command}
+use Rattle.message.specs.declared.state.OpenMessage.{OpenMessage}
+use Rattle.message.specs.declared.state.Message.{Message}
+use Rattle.message.specs.declared.state.Message.the-variants.{Idle, Open}
+use Rattle.message.specs.declared.state.Word.{Word}
+use Rattle.terminal.specs.State.{Card, card, withMessage}
+use Rattle.message.specs.Message.{further}
+use Rattle.message.specs.Format.{formatOf}
+use Rattle.message.specs.Words.{ownCommand}
+use Rattle.message.specs.Words.{onWord}
 use Rattle.terminal.specs.Closing.{faulted}
 use Rattle.terminal.specs.Event.{Outcome, quietly, opens, goesOn}
 

@@ -6,25 +6,13 @@ ghost use Rattle.terminal.specs.State.{card, terminalAtSetup};
 ghost use Rattle.terminal.specs.Event.{replied, queueWord};
 ghost use Rattle.terminal.specs.WordStep.{wordStep};
 ghost use Rattle.terminal.specs.SilenceStep.{silenceStep};
-ghost use Rattle.terminal.specs.Actions.{
-  after,
-  took,
-  alone,
-  wordOf,
-  wordAction,
-  silenceAction,
-  hostWriteAction,
-  readQueueAction,
-  moveTableAction,
-  setFlagsAction,
-  setupAction,
-};
+ghost use Rattle.terminal.specs.Actions.{after, took, alone, wordOf, wordAction, silenceAction, hostWriteAction, readQueueAction, moveTableAction, setFlagsAction, setupAction};
 use crate::state::Core;
 use crate::state::Reply;
 use crate::state::Terminal;
-use crate::state::Word;
 use card::host;
 use card::place::CARD_WORDS;
+use message::state::Word;
 use queue::Queue;
 
 // What an action leaves.

@@ -3,29 +3,11 @@ ghost use mathlib.Core.Path.{_≡_};
 ghost use mathlib.Core.Bool.{cond, true, false};
 ghost use lib.Dec.{eqb};
 ghost use Rattle.queue.specs.Queue.{queue};
-ghost use Rattle.terminal.specs.declared.state.Message.the-variants.{Idle};
+ghost use Rattle.message.specs.declared.state.Message.the-variants.{Idle};
 ghost use Rattle.terminal.specs.State.{card, withStatus, withSwitches, withMessage};
-ghost use Rattle.terminal.specs.Closing.{
-  unlessBusy,
-  stateOf,
-  closedRam,
-  closedQueue,
-  closing,
-  faulted,
-  replies,
-  replyOf,
-  switchedShut,
-  switchedInhibit,
-  switched,
-  endWords,
-  ended,
-};
-use crate::format::Format;
-use crate::judge;
+ghost use Rattle.terminal.specs.Closing.{unlessBusy, stateOf, closedRam, closedQueue, closing, faulted, replies, replyOf, switchedShut, switchedInhibit, switched, endWords, ended};
 use crate::state::Core;
 use crate::state::Held;
-use crate::state::Message;
-use crate::state::OpenMessage;
 use crate::state::Reply;
 use crate::state::Shut;
 use bus::command;
@@ -35,6 +17,10 @@ use card::place::Block;
 use card::place::Cell;
 use card::state::State;
 use card::time;
+use message::format::Format;
+use message::state;
+use message::state::Message;
+use message::state::OpenMessage;
 use queue::Ring;
 
 // Words stored or sent: none under busy where the format yields.
@@ -51,7 +37,7 @@ fn state_of(code: u16, words: u16, message: OpenMessage) -> u16
 {
     let broadcast = command::is_broadcast(message.command);
     let held = message.second;
-    let second = judge::has_second(held);
+    let second = state::has_second(held);
     let state = State {
         line: message.line,
         fault: !(code == 0),

@@ -1,85 +1,16 @@
 // Refusal 4: whether a state is fit.
 ghost use mathlib.Core.Path.{_≡_};
-ghost use Rattle.terminal.specs.Fitness.{
-  fitSecond,
-  fitStage,
-  fitOpen,
-  fitMessage,
-  fitCore,
-  fitTerminal,
-};
-use crate::format;
-use crate::judge;
+ghost use Rattle.terminal.specs.Fitness.{fitCore, fitTerminal};
 use crate::state::Core;
-use crate::state::Message;
-use crate::state::OpenMessage;
-use crate::state::Second;
-use crate::state::Stage;
 use crate::state::Terminal;
-use bus::command;
-use bus::kind;
-
-// After a second command only data receives, that command as rule 6 takes it.
-fn is_fit_second(second: Second, station: u16, command: u16, receive: bool) -> bool
-    ensures { λ fit. ⌜ fit ≡ fitSecond second station command receive ⌝ }
-{
-    match second {
-        Second::Absent => true,
-        Second::Command(value) => {
-            let taken = judge::is_second(station, command, value);
-            receive & taken
-        }
-    }
-}
-
-// A stage that the command can reach.
-fn is_fit_stage(stage: Stage, illegal: bool, second: Second, taken: u16) -> bool
-    ensures { λ fit. ⌜ fit ≡ fitStage stage illegal second taken ⌝ }
-{
-    let present = judge::has_second(second);
-    match stage {
-        Stage::Data => !illegal,
-        Stage::SecondCommand => !illegal & present & (taken == 0),
-        Stage::AwaitingStatus => !illegal & present & (taken == 0),
-        Stage::Skipping => illegal,
-    }
-}
-
-fn is_fit_open(station: u16, message: OpenMessage) -> bool
-    ensures { λ fit. ⌜ fit ≡ fitOpen station message ⌝ }
-{
-    let address = command::address(message.command);
-    let broadcast = command::is_broadcast(message.command);
-    let kind = kind::kind_of(message.command);
-    let format = format::format_by(kind, message.command);
-    let second = message.second;
-    let stage = message.stage;
-    let illegal = kind.is_illegal();
-    let fit_second = is_fit_second(second, station, message.command, format.receive);
-    let fit_stage = is_fit_stage(stage, illegal, second, message.taken);
-    ((address == station) | broadcast)
-        & (message.block <= 255)
-        & (message.home <= 255)
-        & (message.taken <= format.takes)
-        & fit_second
-        & fit_stage
-}
-
-fn is_fit_message(message: Message, station: u16) -> bool
-    ensures { λ fit. ⌜ fit ≡ fitMessage message station ⌝ }
-{
-    match message {
-        Message::Idle => true,
-        Message::Open(held) => is_fit_open(station, held),
-    }
-}
+use message::fitness;
 
 impl Core {
     fn is_fit(self) -> bool
         ensures { λ fit. ⌜ fit ≡ fitCore self ⌝ }
     {
         let message = self.message;
-        let fit = is_fit_message(message, self.station);
+        let fit = fitness::is_fit_message(message, self.station);
         (self.station <= 30) & (self.table <= 255) & (self.flags <= 63) & fit
     }
 }

@@ -1,29 +1,11 @@
 // What the host does to the core, and setup.
 ghost use mathlib.Core.Path.{_≡_};
-ghost use Rattle.terminal.specs.State.{
-  withTable,
-  withFlags,
-  withMessage,
-  movedMessage,
-  coreAtSetup,
-};
+ghost use Rattle.terminal.specs.State.{withTable, withFlags, withMessage, coreAtSetup};
+ghost use Rattle.message.specs.Message.{movedMessage};
 use crate::state::Core;
-use crate::state::Message;
 use crate::state::Shut;
-
-// The host has set the table block: an open message remembers it.
-fn moved_message(message: Message) -> Message
-    ensures { λ moved. ⌜ moved ≡ movedMessage message ⌝ }
-{
-    match message {
-        Message::Idle => Message::Idle,
-        Message::Open(held) => {
-            let mut next = held;
-            next.moved = true;
-            Message::Open(next)
-        }
-    }
-}
+use message::state;
+use message::state::Message;
 
 impl Core {
     pub fn move_table(self, table: u16) -> Core
@@ -31,7 +13,7 @@ impl Core {
             ≡ withTable table (withMessage (movedMessage (self .message)) self) ⌝ }
     {
         let old = self.message;
-        let message = moved_message(old);
+        let message = state::moved_message(old);
         let mut core = self.with_message(message);
         core.table = table;
         core

@@ -2,51 +2,31 @@
 // a run that starts fit stays so.
 ghost use mathlib.Core.Path.{_≡_};
 ghost use Rattle.queue.specs.Queue.{queue};
-ghost use Rattle.terminal.specs.declared.state.Message.the-variants.{Open};
-ghost use Rattle.terminal.specs.State.{card, withMessage, further};
+ghost use Rattle.message.specs.declared.state.Message.the-variants.{Open};
+ghost use Rattle.terminal.specs.State.{card, withMessage};
+ghost use Rattle.message.specs.Message.{further};
 ghost use Rattle.terminal.specs.Event.{shown, seen, replied};
 ghost use Rattle.terminal.specs.WordStep.{wordDone, wordStep};
 ghost use Rattle.terminal.specs.SilenceStep.{silenceDone, silenceStep};
-use crate::format;
-use crate::format::Format;
-use crate::judge;
-use crate::judge::SilenceAct;
-use crate::judge::WordAct;
 use crate::state::Core;
 use crate::state::Heard;
 use crate::state::Held;
-use crate::state::Message;
-use crate::state::OpenMessage;
 use crate::state::Reply;
-use crate::state::Second;
-use crate::state::Stage;
-use crate::state::Word;
 use bus::kind;
 use card::memory;
 use card::place::Block;
 use card::place::Cell;
+use message::format;
+use message::format::Format;
+use message::judge;
+use message::judge::SilenceAct;
+use message::judge::WordAct;
+use message::state::Message;
+use message::state::OpenMessage;
+use message::state::Second;
+use message::state::Stage;
+use message::state::Word;
 use queue::Ring;
-
-impl OpenMessage {
-    // The same message, further on.
-    fn further(self, stage: Stage, second: Second, taken: u16) -> OpenMessage
-        ensures { λ message. ⌜ message ≡ further stage second taken self ⌝ }
-    {
-        OpenMessage {
-            command: self.command,
-            line: self.line,
-            block: self.block,
-            home: self.home,
-            moved: self.moved,
-            busy: self.busy,
-            queued: self.queued,
-            opened: self.opened,
-            taken: taken,
-            second: second,
-            stage: stage,
-        }
-    }
-}
 
 impl Core {
     // The open message goes on.

@@ -1,23 +1,10 @@
 // Opening: what a command makes of the terminal.
 ghost use mathlib.Core.Path.{_≡_};
 ghost use mathlib.Core.Bool.{cond};
-ghost use Rattle.terminal.specs.declared.state.Stage.the-variants.{Data, Skipping};
+ghost use Rattle.message.specs.declared.state.Stage.the-variants.{Data, Skipping};
 ghost use Rattle.card.specs.TableWord.{blockOf};
-ghost use Rattle.terminal.specs.Opening.{
-  busyAt,
-  openedMessage,
-  openedStatus,
-  openedCore,
-  openedAt,
-};
-use crate::format;
-use crate::format::Format;
+ghost use Rattle.terminal.specs.Opening.{busyAt, openedMessage, openedStatus, openedCore, openedAt};
 use crate::state::Core;
-use crate::state::Message;
-use crate::state::OpenMessage;
-use crate::state::Second;
-use crate::state::Stage;
-use crate::state::Word;
 use bus::kind;
 use bus::kind::Kind;
 use bus::status::Status;
@@ -25,6 +12,13 @@ use card::memory;
 use card::place::Block;
 use card::place::Cell;
 use card::table;
+use message::format;
+use message::format::Format;
+use message::state::Message;
+use message::state::OpenMessage;
+use message::state::Second;
+use message::state::Stage;
+use message::state::Word;
 
 // Busy: flag 1 or, with a block, the table word's bit 15.
 fn busy_at(format: Format, flags: u16, entry: u16) -> bool

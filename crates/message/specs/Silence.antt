@@ -1,0 +1,35 @@
+-- Silence: what it does to an open message is decided here and done in `SilenceStep`.
+-- Definitions only. Assumes nothing.
+use mathlib.Core.Bool.{Bool, cond, not, Bool·beq}
+use lib.Dec.{ltb}
+use Rattle.message.specs.declared.format.Format.{Format}
+use Rattle.message.specs.declared.judge.SilenceAct.{SilenceAct}
+use Rattle.message.specs.declared.judge.SilenceAct.the-variants.{
+  Ignore,
+  AwaitStatus,
+  Fault,
+  End,
+}
+use Rattle.message.specs.declared.state.Stage.{Stage}
+use Rattle.message.specs.declared.state.Stage.the-variants.{
+  Data,
+  SecondCommand,
+  AwaitingStatus,
+  Skipping,
+}
+use Rattle.message.specs.declared.state.OpenMessage.{OpenMessage}
+
+-- after a second command, await status; a further silence 2; words short 3; else the message ends
+-- sound
+abbrev pub silenceInStage : Stage → Format → OpenMessage → SilenceAct
+silenceInStage Data format message =
+    cond (ltb (message .taken) (format .takes)) (Fault 3) End
+silenceInStage SecondCommand format message = AwaitStatus
+silenceInStage AwaitingStatus format message = Fault 2
+silenceInStage Skipping format message = End
+
+-- silence elsewhere does nothing
+unfoldable pub onSilence : Format → OpenMessage → Bool → SilenceAct
+onSilence format message line =
+    cond (not (Bool·beq line (message .line))) Ignore
+    (silenceInStage (message .stage) format message)
