@@ -43,7 +43,13 @@ module _ {wanted ram : List ℕ} {address : ℕ} {words : List ℕ} {word : ℕ}
       record {
         leads =
             left .leads
-            ∙ rw (stored, next, add-one word, add-one (address + word), drop-cons words word 0 inside);
+            ∙ rw (
+              stored,
+              next,
+              add-one word,
+              add-one (address + word),
+              drop-cons words word 0 inside,
+            );
       }
 
   pub left-none : length words ≤ word → ram ≡ wanted

@@ -39,7 +39,8 @@ on-silence κs arguments result result′ exit exit′ = same
 pub further : Determined 0 further-kinds.ps further-kinds.r further-reads.Post
 further κs arguments result result′ exit exit′ = same
 
-pub moved-message : Determined 0 moved-message-kinds.ps moved-message-kinds.r moved-message-reads.Post
+pub moved-message :
+    Determined 0 moved-message-kinds.ps moved-message-kinds.r moved-message-reads.Post
 moved-message κs arguments result result′ exit exit′ = same
 
 pub has-second : Determined 0 has-second-kinds.ps has-second-kinds.r has-second-reads.Post
@@ -48,5 +49,6 @@ has-second κs arguments result result′ exit exit′ = same
 pub second-of : Determined 0 second-of-kinds.ps second-of-kinds.r second-of-reads.Post
 second-of κs arguments result result′ exit exit′ = same
 
-pub is-fit-message : Determined 0 is-fit-message-kinds.ps is-fit-message-kinds.r is-fit-message-reads.Post
+pub is-fit-message :
+    Determined 0 is-fit-message-kinds.ps is-fit-message-kinds.r is-fit-message-reads.Post
 is-fit-message κs arguments result result′ exit exit′ = same

@@ -25,7 +25,13 @@ use Rattle.message.specs.declared.state.OpenMessage.{OpenMessage}
 use Rattle.message.specs.declared.state.Word.{Word}
 use Rattle.message.specs.Message.{secondOf}
 use Rattle.message.specs.Words.{ownCommand}
-use Rattle.message.specs.Words.{inData, inSecondCommand, inAwaitingStatus, wordInStage, onWord}
+use Rattle.message.specs.Words.{
+  inData,
+  inSecondCommand,
+  inAwaitingStatus,
+  wordInStage,
+  onWord,
+}
 use Rattle.message.specs.Silence.{silenceInStage}
 
 -- rule 6's test, where a call told whether there is a second command

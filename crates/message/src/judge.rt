@@ -2,7 +2,17 @@
 ghost use mathlib.Core.Path.{_≡_};
 ghost use Rattle.message.specs.Message.{hasSecond, secondOf};
 ghost use Rattle.message.specs.Words.{ownCommand};
-ghost use Rattle.message.specs.Words.{asksForData, dropsBroadcast, isSecond, firstCommand, inData, inSecondCommand, inAwaitingStatus, wordInStage, onWord};
+ghost use Rattle.message.specs.Words.{
+  asksForData,
+  dropsBroadcast,
+  isSecond,
+  firstCommand,
+  inData,
+  inSecondCommand,
+  inAwaitingStatus,
+  wordInStage,
+  onWord,
+};
 ghost use Rattle.message.specs.Silence.{silenceInStage, onSilence};
 use crate::format::Format;
 use crate::state;

@@ -36,13 +36,44 @@ use Rattle.terminal.specs.State.{Card, card, withTable, withFlags, withM
 use Rattle.message.specs.Message.{movedMessage}
 use Rattle.message.specs.Words.{ownCommand}
 use Rattle.message.specs.Words.{onWord}
-use Rattle.terminal.specs.Event.{Event, word, silence, hostWrite, tableMove, flagsWrite, replied, queueWord, Outcome, Shown, shown, seen, opens, quietly}
+use Rattle.terminal.specs.Event.{
+  Event,
+  word,
+  silence,
+  hostWrite,
+  tableMove,
+  flagsWrite,
+  replied,
+  queueWord,
+  Outcome,
+  Shown,
+  shown,
+  seen,
+  opens,
+  quietly,
+}
 use Rattle.terminal.specs.WordStep.{wordDone, wordMet, wordStep}
 use Rattle.terminal.specs.SilenceStep.{silenceStep}
-use Rattle.terminal.specs.Machine.{step, queueReadStep, hostWriteStep, tableMoveStep, flagsWriteStep}
+use Rattle.terminal.specs.Machine.{
+  step,
+  queueReadStep,
+  hostWriteStep,
+  tableMoveStep,
+  flagsWriteStep,
+}
 use Rattle.message.specs.Fitness.{fitOpen, fitMessage}
 use Rattle.terminal.specs.Fitness.{fitTerminal}
-use Rattle.terminal.specs.Actions.{After, after, took, alone, wordOf, withMemory, withoutMemory, readQueueAction, settled}
+use Rattle.terminal.specs.Actions.{
+  After,
+  after,
+  took,
+  alone,
+  wordOf,
+  withMemory,
+  withoutMemory,
+  readQueueAction,
+  settled,
+}
 
 -- ---- a word brings no reply
 

@@ -14,7 +14,18 @@ use Rattle.message.specs.declared.state.OpenMessage.{OpenMessage}
 use Rattle.terminal.specs.declared.state.Core.{Core}
 use Rattle.terminal.specs.declared.state.Reply.the-variants.{Silent, Status, Words, Last}
 use Rattle.terminal.specs.State.{Card, card, withStatus}
-use Rattle.terminal.specs.Closing.{unlessBusy, stateOf, closedRam, closing, faulted, replies, replyOf, switched, endWords, ended}
+use Rattle.terminal.specs.Closing.{
+  unlessBusy,
+  stateOf,
+  closedRam,
+  closing,
+  faulted,
+  replies,
+  replyOf,
+  switched,
+  endWords,
+  ended,
+}
 
 -- ---- memory, on each way
 

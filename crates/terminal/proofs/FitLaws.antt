@@ -7,11 +7,33 @@ use mathlib.Core.List.{List, [], _∷_}
 use Prim.Native.Nat.{ℕ, _≤_}
 use borrow.Author.Tests.{le-leb}
 use Rattle.queue.proofs.FitLaws.{read-keeps-fit, empty-is-fit}
-use Rattle.terminal.specs.State.{Card, withTable, withFlags, withMessage, coreAtSetup, terminalAtSetup}
-use Rattle.terminal.specs.Event.{Event, word, silence, queueRead, hostWrite, tableMove, flagsWrite}
+use Rattle.terminal.specs.State.{
+  Card,
+  withTable,
+  withFlags,
+  withMessage,
+  coreAtSetup,
+  terminalAtSetup,
+}
+use Rattle.terminal.specs.Event.{
+  Event,
+  word,
+  silence,
+  queueRead,
+  hostWrite,
+  tableMove,
+  flagsWrite,
+}
 use Rattle.terminal.specs.WordStep.{wordStep}
 use Rattle.terminal.specs.SilenceStep.{silenceStep}
-use Rattle.terminal.specs.Machine.{queueReadStep, hostWriteStep, tableMoveStep, flagsWriteStep, step, run}
+use Rattle.terminal.specs.Machine.{
+  queueReadStep,
+  hostWriteStep,
+  tableMoveStep,
+  flagsWriteStep,
+  step,
+  run,
+}
 use Rattle.terminal.specs.Fitness.{fitCore, fitTerminal}
 use Rattle.terminal.specs.Actions.{noTerminal}
 use Rattle.terminal.proofs.FitParts.{fit-core-parts, fit-core-whole, FitCard}

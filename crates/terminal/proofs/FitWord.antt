@@ -35,7 +35,16 @@ use Rattle.terminal.specs.State.{Card, withStatus, withMessage}
 use Rattle.message.specs.Message.{further, hasSecond}
 use Rattle.message.specs.Format.{formatOf}
 use Rattle.message.specs.Words.{ownCommand}
-use Rattle.message.specs.Words.{asksForData, dropsBroadcast, isSecond, inData, inSecondCommand, inAwaitingStatus, wordInStage, onWord}
+use Rattle.message.specs.Words.{
+  asksForData,
+  dropsBroadcast,
+  isSecond,
+  inData,
+  inSecondCommand,
+  inAwaitingStatus,
+  wordInStage,
+  onWord,
+}
 use Rattle.terminal.specs.Closing.{closing, faulted}
 use Rattle.terminal.specs.Event.{opens, quietly}
 use Rattle.terminal.specs.WordStep.{wordDone, wordMet}

@@ -8,21 +8,59 @@ use Rattle.card.specs.Memory.{cellAt, withCell, withService, withLink}
 use Rattle.card.specs.StateWord.{stateWord}
 use Rattle.card.specs.Sent.{sentRefusal, sentPart}
 use Rattle.queue.specs.Queue.{withJoined, oldestWord, withoutOldest, fitQueue}
-use Rattle.terminal.specs.State.{withTable, withFlags, withStatus, withLast, withSwitches, withMessage, coreAtSetup, terminalAtSetup}
+use Rattle.terminal.specs.State.{
+  withTable,
+  withFlags,
+  withStatus,
+  withLast,
+  withSwitches,
+  withMessage,
+  coreAtSetup,
+  terminalAtSetup,
+}
 use Rattle.message.specs.Message.{further, movedMessage}
 use Rattle.message.specs.Format.{formatBy}
 use Rattle.message.specs.Words.{ownCommand}
 use Rattle.terminal.specs.Opening.{openedMessage, openedStatus, openedCore, opening}
 use Rattle.message.specs.Words.{inData, inSecondCommand, inAwaitingStatus, onWord}
 use Rattle.message.specs.Silence.{onSilence}
-use Rattle.terminal.specs.Closing.{stateOf, closedRam, closedQueue, closing, faulted, replies, replyOf, switchedShut, switchedInhibit, endWords, ended}
+use Rattle.terminal.specs.Closing.{
+  stateOf,
+  closedRam,
+  closedQueue,
+  closing,
+  faulted,
+  replies,
+  replyOf,
+  switchedShut,
+  switchedInhibit,
+  endWords,
+  ended,
+}
 use Rattle.terminal.specs.Event.{openedBy}
 use Rattle.terminal.specs.WordStep.{wordDone, wordStep}
 use Rattle.terminal.specs.SilenceStep.{silenceDone, silenceStep}
-use Rattle.terminal.specs.Machine.{queueReadStep, hostWriteStep, tableMoveStep, flagsWriteStep, step, run}
+use Rattle.terminal.specs.Machine.{
+  queueReadStep,
+  hostWriteStep,
+  tableMoveStep,
+  flagsWriteStep,
+  step,
+  run,
+}
 use Rattle.message.specs.Fitness.{fitOpen}
 use Rattle.terminal.specs.Fitness.{fitCore, fitTerminal}
-use Rattle.terminal.specs.Actions.{withMemory, withoutMemory, wordAction, silenceAction, hostWriteAction, readQueueAction, moveTableAction, setFlagsAction, setupAction}
+use Rattle.terminal.specs.Actions.{
+  withMemory,
+  withoutMemory,
+  wordAction,
+  silenceAction,
+  hostWriteAction,
+  readQueueAction,
+  moveTableAction,
+  setFlagsAction,
+  setupAction,
+}
 
 -- command, status and mode codes
 busWords : ℕ

@@ -7,7 +7,16 @@ use Rattle.message.specs.declared.state.Stage.the-variants.{Data}
 use Rattle.message.specs.declared.state.Second.the-variants.{Absent}
 use Rattle.message.specs.declared.state.Message.the-variants.{Open}
 use Rattle.terminal.specs.declared.state.Reply.the-variants.{Status}
-use Rattle.terminal.specs.Event.{queueRead, tableMove, flagsWrite, replied, queueWord, none, keeping, afresh}
+use Rattle.terminal.specs.Event.{
+  queueRead,
+  tableMove,
+  flagsWrite,
+  replied,
+  queueWord,
+  none,
+  keeping,
+  afresh,
+}
 use Rattle.terminal.proofs.Runs.{
   runs,
   heard,

@@ -9,7 +9,16 @@ use Rattle.terminal.specs.declared.state.Reply.the-variants.{Silent, Sta
 use Rattle.terminal.specs.State.{Card, card, coreAtSetup}
 use Rattle.terminal.specs.Event.{tableMove, flagsWrite, replied, queueWord}
 use Rattle.terminal.specs.Machine.{run}
-use Rattle.terminal.specs.Actions.{after, wordAction, silenceAction, hostWriteAction, readQueueAction, moveTableAction, setFlagsAction, setupAction}
+use Rattle.terminal.specs.Actions.{
+  after,
+  wordAction,
+  silenceAction,
+  hostWriteAction,
+  readQueueAction,
+  moveTableAction,
+  setFlagsAction,
+  setupAction,
+}
 use Rattle.terminal.proofs.Runs.{runs, put, receive, word1, word2, quiet, chained, cardAfter}
 
 -- a card whose message is open, with one word in
@@ -211,12 +220,14 @@ a-refused-table-move-does-not-count-as-one = refl
 -- ---- setup: 2, 3, 8
 
 -- (f) of the proved set; 2 comes before 3 and 8
-station-31-is-refused-by-2 : setupAction 31 1 0 .refusal ∷ setupAction 31 256 64 .refusal ∷ [] ≡ 2 ∷ 2 ∷ []
+station-31-is-refused-by-2 :
+    setupAction 31 1 0 .refusal ∷ setupAction 31 256 64 .refusal ∷ [] ≡ 2 ∷ 2 ∷ []
 unfolding runs
 station-31-is-refused-by-2 = refl
 
 -- 3 comes before 8
-table-block-256-is-refused-by-3 : setupAction 5 256 0 .refusal ∷ setupAction 5 256 64 .refusal ∷ [] ≡ 3 ∷ 3 ∷ []
+table-block-256-is-refused-by-3 :
+    setupAction 5 256 0 .refusal ∷ setupAction 5 256 64 .refusal ∷ [] ≡ 3 ∷ 3 ∷ []
 unfolding runs
 table-block-256-is-refused-by-3 = refl
 
@@ -238,7 +249,8 @@ setup-makes-the-terminal = refl
 -- it returns no terminal: what stands for it is refused by 4
 a-refused-setup-makes-a-terminal-that-is-refused :
     silenceAction 0 0
-    (card (setupAction 5 1 64 .terminal .core) (setupAction 5 1 64 .terminal .queue) (chained .ram)) .refusal
+    (card (setupAction 5 1 64 .terminal .core) (setupAction 5 1 64 .terminal .queue)
+    (chained .ram)) .refusal
     ≡ 4
 unfolding runs
 a-refused-setup-makes-a-terminal-that-is-refused = refl

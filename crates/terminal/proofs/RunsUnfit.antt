@@ -20,7 +20,15 @@ use Rattle.terminal.specs.declared.state.Core.{Core}
 use Rattle.terminal.specs.declared.state.Reply.the-variants.{Silent}
 use Rattle.terminal.specs.State.{Card, card, withStatus, withLast, withMessage, coreAtSetup}
 use Rattle.terminal.specs.Event.{replied, queueWord}
-use Rattle.terminal.specs.Actions.{after, wordAction, silenceAction, hostWriteAction, readQueueAction, moveTableAction, setFlagsAction}
+use Rattle.terminal.specs.Actions.{
+  after,
+  wordAction,
+  silenceAction,
+  hostWriteAction,
+  readQueueAction,
+  moveTableAction,
+  setFlagsAction,
+}
 use Rattle.terminal.proofs.Runs.{runs, atSetup}
 
 -- the number that a silence on line A gets from a core, an empty queue and a memory of zeros

@@ -5,7 +5,19 @@ use lib.Seq.{sets}
 use Rattle.queue.specs.Queue.{oldestWord, withoutOldest, queue}
 use Rattle.terminal.specs.State.{Card, card, withTable, withFlags, withMessage}
 use Rattle.message.specs.Message.{movedMessage}
-use Rattle.terminal.specs.Event.{Event, word, silence, queueRead, hostWrite, tableMove, flagsWrite, queueWord, none, Outcome, quietly}
+use Rattle.terminal.specs.Event.{
+  Event,
+  word,
+  silence,
+  queueRead,
+  hostWrite,
+  tableMove,
+  flagsWrite,
+  queueWord,
+  none,
+  Outcome,
+  quietly,
+}
 use Rattle.terminal.specs.WordStep.{wordStep}
 use Rattle.terminal.specs.SilenceStep.{silenceStep}
 

@@ -5,7 +5,21 @@ ghost use lib.Dec.{eqb};
 ghost use Rattle.queue.specs.Queue.{queue};
 ghost use Rattle.message.specs.declared.state.Message.the-variants.{Idle};
 ghost use Rattle.terminal.specs.State.{card, withStatus, withSwitches, withMessage};
-ghost use Rattle.terminal.specs.Closing.{unlessBusy, stateOf, closedRam, closedQueue, closing, faulted, replies, replyOf, switchedShut, switchedInhibit, switched, endWords, ended};
+ghost use Rattle.terminal.specs.Closing.{
+  unlessBusy,
+  stateOf,
+  closedRam,
+  closedQueue,
+  closing,
+  faulted,
+  replies,
+  replyOf,
+  switchedShut,
+  switchedInhibit,
+  switched,
+  endWords,
+  ended,
+};
 use crate::state::Core;
 use crate::state::Held;
 use crate::state::Reply;

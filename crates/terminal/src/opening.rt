@@ -3,7 +3,13 @@ ghost use mathlib.Core.Path.{_≡_};
 ghost use mathlib.Core.Bool.{cond};
 ghost use Rattle.message.specs.declared.state.Stage.the-variants.{Data, Skipping};
 ghost use Rattle.card.specs.TableWord.{blockOf};
-ghost use Rattle.terminal.specs.Opening.{busyAt, openedMessage, openedStatus, openedCore, openedAt};
+ghost use Rattle.terminal.specs.Opening.{
+  busyAt,
+  openedMessage,
+  openedStatus,
+  openedCore,
+  openedAt,
+};
 use crate::state::Core;
 use bus::kind;
 use bus::kind::Kind;
