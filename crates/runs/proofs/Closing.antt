@@ -3,9 +3,9 @@
 use mathlib.Core.Path.{_≡_, refl}
 use mathlib.Core.List.{List, [], _∷_, _++_}
 use Prim.Native.Nat.{ℕ}
 use Rattle.terminal.specs.declared.state.Reply.the-variants.{Status}
 use Rattle.terminal.specs.Event.{Event, queueRead, tableMove, replied, queueWord}
-use Rattle.terminal.proofs.Runs.{
+use Rattle.runs.proofs.Telling.{
   runs,
   commandA,
   dataA,

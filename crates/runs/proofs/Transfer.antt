@@ -7,9 +7,9 @@ use lib.ListN.{replicate}
 use Rattle.message.specs.declared.state.Stage.the-variants.{SecondCommand}
 use Rattle.message.specs.declared.state.Second.the-variants.{Command}
 use Rattle.message.specs.declared.state.Message.the-variants.{Open}
 use Rattle.terminal.specs.declared.state.Reply.the-variants.{Silent, Status}
 use Rattle.terminal.specs.Event.{Event, flagsWrite, replied}
-use Rattle.terminal.proofs.Runs.{
+use Rattle.runs.proofs.Telling.{
   runs,
   heard,
   commandA,

@@ -1,12 +1,12 @@
 -- Mode commands: which reply each legal code gets, which chain it goes by, what it takes and sends.
--- What codes 4 to 8 do is in `RunsSwitches`. Assumes nothing.
+-- What codes 4 to 8 do is in `Switches`. Assumes nothing.
 use mathlib.Core.Path.{_≡_, refl}
 use mathlib.Core.List.{List, [], _∷_}
 use Prim.Native.Nat.{ℕ}
 use lib.ListN.{replicate}
 use Rattle.terminal.specs.declared.state.Reply.the-variants.{Silent, Status, Words, Last}
 use Rattle.terminal.specs.Event.{Event, queueRead, flagsWrite, replied, queueWord}
-use Rattle.terminal.proofs.Runs.{
+use Rattle.runs.proofs.Telling.{
   runs,
   commandA,
   commandB,

@@ -2,9 +2,9 @@
 -- message with code 7 and opens. Other words on the other line do nothing. Assumes nothing.
 use mathlib.Core.Path.{_≡_, refl}
 use mathlib.Core.List.{[], _∷_}
 use Rattle.terminal.specs.declared.state.Reply.the-variants.{Silent, Status, Words, Last}
 use Rattle.terminal.specs.Event.{queueRead, flagsWrite, replied, queueWord}
-use Rattle.terminal.proofs.Runs.{
+use Rattle.runs.proofs.Telling.{
   runs,
   heard,
   commandA,

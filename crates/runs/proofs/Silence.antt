@@ -5,9 +5,9 @@ use mathlib.Core.List.{List, [], _∷_, _++_}
 use Prim.Native.Nat.{ℕ}
 use lib.ListN.{replicate}
 use Rattle.card.specs.Sent.{sentPart}
 use Rattle.terminal.specs.declared.state.Reply.the-variants.{Silent, Status, Words}
 use Rattle.terminal.specs.Event.{Event, queueRead, hostWrite, flagsWrite, replied, queueWord}
-use Rattle.terminal.proofs.Runs.{
+use Rattle.runs.proofs.Telling.{
   runs,
   commandA,
   commandB,

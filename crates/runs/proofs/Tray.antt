@@ -5,11 +5,11 @@ use mathlib.Core.Bool.{false}
 use mathlib.Core.List.{List, [], _∷_, _++_}
 use lib.ListN.{replicate, set}
 use Rattle.queue.specs.Queue.{queue, ringOf}
 use Rattle.terminal.specs.declared.state.Reply.the-variants.{Silent, Status}
 use Rattle.terminal.specs.State.{withLast, coreAtSetup}
 use Rattle.terminal.specs.Event.{Event, queueRead, hostWrite, replied, queueWord}
 use Rattle.terminal.specs.Machine.{run}
-use Rattle.terminal.proofs.Runs.{
+use Rattle.runs.proofs.Telling.{
   runs,
   unsoundA,
   receive,

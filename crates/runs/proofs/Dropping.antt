@@ -3,9 +3,9 @@
 -- Assumes nothing.
 use mathlib.Core.Path.{_≡_, refl}
 use mathlib.Core.List.{List, [], _∷_, _++_}
 use Rattle.terminal.specs.declared.state.Reply.the-variants.{Words}
 use Rattle.terminal.specs.Event.{Event, queueRead, flagsWrite, replied, queueWord}
-use Rattle.terminal.proofs.Runs.{
+use Rattle.runs.proofs.Telling.{
   runs,
   commandA,
   joinedA,

@@ -6,15 +6,15 @@ use mathlib.Core.List.{List, [], _∷_, _++_}
 use Prim.Native.Nat.{ℕ}
 use lib.ListN.{getD, replicate}
 use Rattle.card.specs.Memory.{cardWords, wordAddress, cellAt}
 use Rattle.terminal.specs.declared.state.Shut.{Shut}
 use Rattle.message.specs.declared.state.Message.{Message}
 use Rattle.message.specs.declared.state.Message.the-variants.{Idle, Open}
 use Rattle.terminal.specs.State.{Card, card, terminalAtSetup}
 use Rattle.terminal.specs.declared.state.Answer.{Answer}
 use Rattle.terminal.specs.Event.{Event, word, silence, hostWrite, Outcome, quietly}
 use Rattle.terminal.specs.Machine.{step, run}
 use Rattle.terminal.specs.Actions.{wordOf}
-use Rattle.terminal.proofs.RunsMachine.{machine}
+use Rattle.runs.proofs.Machine.{machine}
 
 -- ---- words and silences
 

@@ -6,11 +6,11 @@ use mathlib.Core.List.{List, [], _∷_, _++_}
 use Prim.Native.Nat.{ℕ}
 use lib.ListN.{replicate, set}
 use Rattle.queue.specs.Queue.{queue, ringOf}
 use Rattle.terminal.specs.declared.state.Reply.the-variants.{Status}
 use Rattle.terminal.specs.State.{Card, card}
 use Rattle.terminal.specs.Event.{Event, queueRead, flagsWrite, replied, queueWord}
 use Rattle.terminal.specs.Machine.{run}
-use Rattle.terminal.proofs.Runs.{
+use Rattle.runs.proofs.Telling.{
   runs,
   commandA,
   silenceA,

@@ -3,10 +3,10 @@
 use mathlib.Core.Path.{_≡_, refl}
 use mathlib.Core.List.{[], _∷_}
 use lib.ListN.{replicate}
 use Rattle.terminal.specs.declared.state.Reply.the-variants.{Silent}
 use Rattle.terminal.specs.State.{withStatus, withLast, coreAtSetup}
 use Rattle.terminal.specs.Event.{flagsWrite, replied}
-use Rattle.terminal.proofs.Runs.{
+use Rattle.runs.proofs.Telling.{
   runs,
   heard,
   commandA,

@@ -1,15 +1,15 @@
 -- The actions of the library: what is taken, what is refused by 1, 8, 2 and 3, and in which order.
--- A refusal returns its number and everything as given. Unfit states are in `RunsUnfit`. Assumes
+-- A refusal returns its number and everything as given. Unfit states are in `Unfit`. Assumes
 -- nothing.
 use mathlib.Core.Path.{_≡_, refl}
 use mathlib.Core.List.{[], _∷_}
 use lib.ListN.{replicate}
 use Rattle.card.specs.Memory.{cellAt}
 use Rattle.terminal.specs.declared.state.Reply.the-variants.{Silent, Status}
 use Rattle.terminal.specs.State.{Card, card, coreAtSetup}
 use Rattle.terminal.specs.Event.{tableMove, flagsWrite, replied, queueWord}
 use Rattle.terminal.specs.Machine.{run}
 use Rattle.terminal.specs.Actions.{
   after,
   wordAction,
   silenceAction,
@@ -19,7 +19,7 @@ use Rattle.terminal.specs.Actions.{
   setFlagsAction,
   setupAction,
 }
-use Rattle.terminal.proofs.Runs.{runs, put, receive, word1, word2, quiet, chained, cardAfter}
+use Rattle.runs.proofs.Telling.{runs, put, receive, word1, word2, quiet, chained, cardAfter}
 
 -- a card whose message is open, with one word in
 abbrev old : Card

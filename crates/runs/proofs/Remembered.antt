@@ -2,9 +2,9 @@
 -- nothing.
 use mathlib.Core.Path.{_≡_, refl}
 use mathlib.Core.List.{List, [], _∷_, _++_}
 use Rattle.terminal.specs.declared.state.Reply.the-variants.{Silent, Status, Last}
 use Rattle.terminal.specs.Event.{Event, flagsWrite, replied}
-use Rattle.terminal.proofs.Runs.{
+use Rattle.runs.proofs.Telling.{
   runs,
   commandA,
   commandB,

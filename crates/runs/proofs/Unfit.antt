@@ -29,7 +29,7 @@ use Rattle.terminal.specs.Actions.{
   moveTableAction,
   setFlagsAction,
 }
-use Rattle.terminal.proofs.Runs.{runs, atSetup}
+use Rattle.runs.proofs.Telling.{runs, atSetup}
 
 -- the number that a silence on line A gets from a core, an empty queue and a memory of zeros
 abbrev judged : Core → ℕ

@@ -1,13 +1,13 @@
 -- Openings: which words open a message, and what an opening catches and fixes. The runs start from
--- the five chains of `Runs`. Assumes nothing.
+-- the five chains of `Telling`. Assumes nothing.
 use mathlib.Core.Path.{_≡_, refl}
 use mathlib.Core.Bool.{true, false}
 use mathlib.Core.List.{[], _∷_}
 use Rattle.message.specs.declared.state.Stage.the-variants.{Data}
 use Rattle.message.specs.declared.state.Second.the-variants.{Absent}
 use Rattle.message.specs.declared.state.Message.the-variants.{Open}
 use Rattle.terminal.specs.declared.state.Reply.the-variants.{Status}
 use Rattle.terminal.specs.Event.{
   queueRead,
   tableMove,
   flagsWrite,
@@ -17,7 +17,7 @@ use Rattle.terminal.specs.Event.{
   keeping,
   afresh,
 }
-use Rattle.terminal.proofs.Runs.{
+use Rattle.runs.proofs.Telling.{
   runs,
   heard,
   commandA,

@@ -1,0 +1,36 @@
+-- Worked runs of the terminal, by computation: an engineer can check each by hand against document
+-- 01. Read `Tray` first.
+--     Machine         one name to unfold the whole machine
+--     Telling         what worked runs are told with; then the runs, by computation:
+--     Tray            document 01's tray run
+--     Opening         which words open a message, and what an opening catches and fixes
+--     Superseding     an own command while a message is open; words on the other line
+--     Words           rules 1, 3 and 5 to 8, without a second command; after a fault
+--     Transfer        rules 2, 4 and 6: a second command and the answering status
+--     Dropping        rule 6: a broadcast message is dropped
+--     Silence         sound ends and replies; words short, busy, broadcast, shut lines
+--     Modes           mode codes: replies, chains and words
+--     Remembered      mode codes 2 and 18: status and last command are kept
+--     Switches        mode codes 4 to 8: shut lines and terminal flag inhibit
+--     Illegal         illegal commands
+--     Closing         links, table moves, a block that is the table, time
+--     Queue           joining, reading and overflow
+--     Refusals        refusals 1, 8, 3 and setup's 2, 3, 8, in their order
+--     Unfit           refusal 4: unfit states
+pub mod Machine
+pub mod Telling
+mod Tray
+mod Opening
+mod Superseding
+mod Words
+mod Transfer
+mod Dropping
+mod Silence
+mod Modes
+mod Remembered
+mod Switches
+mod Illegal
+mod Closing
+mod Queue
+mod Refusals
+mod Unfit

@@ -1,0 +1,1 @@
+// Worked runs of the terminal. There is no code here: see proofs/Lib.antt.
