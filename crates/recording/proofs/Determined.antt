@@ -1,0 +1,18 @@
+-- Each public contract of the crate allows one outcome alone: one reading, and one content of every
+-- word that was lent. Assumes nothing.
+use mathlib.Core.List.{List}
+use Prim.Native.Nat.{ℕ}
+use denote.Ref.{now}
+use Rattle.rules.proofs.Determined.{Determined, DeterminedAs, same}
+use Rattle.recording.proofs.read_field.Kinds as read-field-kinds
+use Rattle.recording.proofs.read_field.Reads as read-field-reads
+use Rattle.recording.proofs.copy_words.Kinds as copy-words-kinds
+use Rattle.recording.proofs.copy_words.Reads as copy-words-reads
+
+pub read-field : Determined 1 read-field-kinds.ps read-field-kinds.r read-field-reads.Post
+read-field κs arguments result result′ exit exit′ = same
+
+pub copy-words :
+    DeterminedAs 2 copy-words-kinds.ps copy-words-kinds.r copy-words-reads.Post (List ℕ)
+    (λ κs result exit. now (exit .1 .1 .1 .0))
+copy-words κs arguments result result′ exit exit′ = same

@@ -1,0 +1,104 @@
+-- `recording::Field::refusal` meets its contract, by the cases of the field and of its tests.
+-- Assumes nothing.
+use borrow.Author.Needs.{needs}
+use Rattle.rules.proofs.Cases.{cases}
+use Rattle.recording.proofs.FieldLaws.{refusals}
+use Rattle.recording.proofs.Field.refusal.Statement.{statement}
+use Rattle.recording.proofs.Field.refusal.Tie as tie
+
+enum-known-self : tie.Need-enum-known-self
+enum-known-self c = search needs
+
+returns : tie.Need-returns
+returns c = search (cases, refusals) depth 9
+
+returns-2 : tie.Need-returns-2
+returns-2 c = search (cases, refusals) depth 9
+
+enum-known-self-2 : tie.Need-enum-known-self-2
+enum-known-self-2 c = search needs
+
+returns-3 : tie.Need-returns-3
+returns-3 c = search (cases, refusals) depth 9
+
+enum-known-self-3 : tie.Need-enum-known-self-3
+enum-known-self-3 c = search needs
+
+returns-4 : tie.Need-returns-4
+returns-4 c = search (cases, refusals) depth 9
+
+enum-told : tie.Need-enum-told
+enum-told c = search needs
+
+enum-known-self-4 : tie.Need-enum-known-self-4
+enum-known-self-4 c = search needs
+
+returns-5 : tie.Need-returns-5
+returns-5 c = search (cases, refusals) depth 9
+
+cast-if6 : tie.Need-cast-if6
+cast-if6 c = search needs
+
+add-if6 : tie.Need-add-if6
+add-if6 c = search needs
+
+returns-6 : tie.Need-returns-6
+returns-6 c = search (cases, refusals) depth 9
+
+enum-told-2 : tie.Need-enum-told-2
+enum-told-2 c = search needs
+
+enum-known-self-5 : tie.Need-enum-known-self-5
+enum-known-self-5 c = search needs
+
+returns-7 : tie.Need-returns-7
+returns-7 c = search (cases, refusals) depth 9
+
+returns-8 : tie.Need-returns-8
+returns-8 c = search (cases, refusals) depth 9
+
+returns-9 : tie.Need-returns-9
+returns-9 c = search (cases, refusals) depth 9
+
+returns-10 : tie.Need-returns-10
+returns-10 c = search (cases, refusals) depth 9
+
+returns-11 : tie.Need-returns-11
+returns-11 c = search needs
+
+returns-12 : tie.Need-returns-12
+returns-12 c = search (cases, refusals) depth 9
+
+returns-13 : tie.Need-returns-13
+returns-13 c = search needs
+
+returns-14 : tie.Need-returns-14
+returns-14 c = search (cases, refusals) depth 9
+
+pub refusal-spec : {M : Type 1} → statement M
+refusal-spec =
+    tie.close
+    (tie.spec
+    enum-known-self
+    returns
+    returns-2
+    enum-known-self-2
+    returns-3
+    enum-known-self-3
+    returns-4
+    enum-told
+    enum-known-self-4
+    returns-5
+    cast-if6
+    add-if6
+    returns-6
+    enum-told-2
+    enum-known-self-5
+    returns-7
+    returns-8
+    returns-9
+    returns-10
+    returns-11
+    returns-12
+    returns-13
+    returns-14)

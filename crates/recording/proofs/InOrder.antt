@@ -1,0 +1,168 @@
+-- Every field that is taken is in order: what it holds is what the tables of document 01 allow
+-- (`taken-in-order`), and the rest fits its width (`taken-fits-widths`). Assumes nothing.
+use mathlib.Core.Path.{_≡_, refl}
+use mathlib.Core.Bool.{Bool, true, false, cond}
+use mathlib.Core.List.{List}
+use Prim.Native.Nat.{ℕ, suc, _+_, _-_, _*_, _/_, _≤_, _<_}
+use native.Mathlib.Omega.{arith}
+use lib.Dec.{eqb, ltb}
+use borrow.Author.Tests.{eqb-true, ltb-false}
+use Rattle.recording.specs.declared.Field.{Field}
+use Rattle.recording.specs.declared.Field.the-variants.{
+  Setup,
+  Word,
+  Silence,
+  QueueRead,
+  HostWrite,
+  Table,
+  Flags,
+}
+use Rattle.recording.specs.declared.Reading.the-variants.{Taken}
+use Rattle.recording.specs.Bytes.{byteAt, wordAt, timeAt}
+use Rattle.recording.specs.Field.{lengthFits, fieldAt, valueRefusal}
+use Rattle.recording.specs.Reading.{readAt}
+use Rattle.recording.proofs.Choices.{by-test}
+use Rattle.recording.proofs.FieldLaws.{WriteSize, size-of-write}
+use Rattle.recording.proofs.TakenLaws.{TakenAt, taken-tells}
+
+-- ---- what it is to be in order
+
+pub record SetupInOrder (station flags : ℕ) : Type 0 where
+  pub station-at-most : station ≤ 30
+  pub flags-at-most : flags ≤ 63
+
+-- the words stand behind tag, length and address, and reach to the end of the field
+pub record WriteInOrder (place next address first count : ℕ) : Type 0 where
+  pub some : 1 ≤ count
+  pub at-most : count ≤ 64
+  pub on-card : address + count ≤ 16384
+  pub from-there : first ≡ place + 5
+  pub to-the-end : first + 2 * count ≡ next
+
+-- a field that stands from `place` to `next`
+abbrev pub InOrder : ℕ → ℕ → Field → Type 0
+InOrder place next (Setup station table flags) = SetupInOrder station flags
+InOrder place next (Word marks value time) = marks ≤ 15
+InOrder place next (Silence line time) = line ≤ 1
+InOrder place next QueueRead = Unit
+InOrder place next (HostWrite address first count) = WriteInOrder place next address first count
+InOrder place next (Table table) = Unit
+InOrder place next (Flags flags) = flags ≤ 63
+
+-- ---- a field that is not refused is in order
+
+-- a number that passed its test is within the limit, and the tests after it were passed too
+module _ (limit value less rest : ℕ) where
+  within : cond (ltb limit value) (suc less) rest ≡ 0 → value ≤ limit
+  within in-order = ltb-false limit value (passed (ltb limit value) in-order)
+    where
+      passed : (test : Bool) → cond test (suc less) rest ≡ 0 → test ≡ false
+      passed true is = absurd (omega arith)
+      passed false is = refl
+
+  further : cond (ltb limit value) (suc less) rest ≡ 0 → rest ≡ 0
+  further = passed (ltb limit value)
+    where
+      passed : (test : Bool) → cond test (suc less) rest ≡ 0 → rest ≡ 0
+      passed true is = absurd (omega arith)
+      passed false is = is
+
+setup-in-order : (station table flags : ℕ)
+    → valueRefusal (Setup station table flags) ≡ 0 → SetupInOrder station flags
+setup-in-order station table flags in-order =
+    let by-flags : ℕ = cond (ltb 63 flags) 8 0 in
+    record {
+      station-at-most = within 30 station 1 by-flags in-order;
+      flags-at-most = within 63 flags 7 0 (further 30 station 1 by-flags in-order);
+    }
+
+-- the words of a host write fill the rest of its value
+write-in-order : (place size address : ℕ) → WriteSize size
+    → valueRefusal (HostWrite address (place + 3 + 2) ((size - 2) / 2)) ≡ 0
+    → WriteInOrder place (place + 3 + size) address (place + 3 + 2) ((size - 2) / 2)
+write-in-order place size address is in-order =
+    record {
+      some = omega (arith, is .at-least);
+      at-most = omega (arith, is .at-most);
+      on-card = within 16384 (address + (size - 2) / 2) 7 0 in-order;
+      from-there = omega arith;
+      to-the-end = omega (arith, is .at-least, is .even);
+    }
+
+module _ (bytes : List ℕ) (place size : ℕ) where
+  field-in-order : (tag : ℕ) → lengthFits tag size ≡ true
+      → valueRefusal (fieldAt bytes tag (place + 3) size) ≡ 0
+      → InOrder place (place + 3 + size) (fieldAt bytes tag (place + 3) size)
+  unfolding fieldAt
+  field-in-order tag fits =
+      by-test Claim (eqb tag 1) (λ _. setup-in-order front (byte 1) (byte 2)) (λ _.
+      by-test Claim (eqb tag 2) (λ _. within 15 front 7 0) (λ _.
+      by-test Claim (eqb tag 3) (λ _. within 1 front 7 0) (λ _.
+      by-test Claim (eqb tag 4) (λ _ _. tt) (λ _.
+      by-test Claim (eqb tag 5)
+      (λ is. write-in-order place size (wordAt bytes (place + 3))
+      (size-of-write tag size fits (eqb-true tag 5 is))) (λ _.
+      by-test Claim (eqb tag 6) (λ _ _. tt) (λ _. within 63 front 7 0))))))
+    where
+      Claim : Field → Type 0
+      Claim field = valueRefusal field ≡ 0 → InOrder place (place + 3 + size) field
+
+      front : ℕ
+      front = byteAt bytes (place + 3)
+
+      byte : ℕ → ℕ
+      byte offset = byteAt bytes (place + 3 + offset)
+
+pub taken-in-order : (bytes : List ℕ) (place : ℕ) (begun : Bool) {field : Field} {next : ℕ}
+    → readAt bytes place begun ≡ Taken field next → InOrder place next field
+taken-in-order bytes place begun {field} {next} is =
+    let told : TakenAt bytes place begun field next = taken-tells bytes place begun is in
+    let size : ℕ = wordAt bytes (place + 1) in
+    let tag : ℕ = byteAt bytes place in
+    rw (told .is-next, told .is-field)
+    (field-in-order bytes place size tag (told .there .fits)
+    (rw (told .is-field) at (told .in-order)))
+
+-- ---- what no test of the reader bounds, the bytes do
+
+-- the elements of the list are bytes
+abbrev pub AreBytes : List ℕ → Type 0
+AreBytes bytes = (place : ℕ) → byteAt bytes place < 256
+
+abbrev pub FitsWidths : Field → Type 0
+FitsWidths (Setup station table flags) = table ≤ 255
+FitsWidths (Word marks value time) = (value ≤ 65535) × (time ≤ 4294967295)
+FitsWidths (Silence line time) = time ≤ 4294967295
+FitsWidths QueueRead = Unit
+FitsWidths (HostWrite address first count) = address ≤ 65535
+FitsWidths (Table table) = table ≤ 255
+FitsWidths (Flags flags) = flags ≤ 255
+
+module _ (bytes : List ℕ) (are : AreBytes bytes) where
+  byte-at-most : (place : ℕ) → byteAt bytes place ≤ 255
+  byte-at-most place = omega (arith, are place)
+
+  word-at-most : (place : ℕ) → wordAt bytes place ≤ 65535
+  word-at-most place = omega (arith, are place, are (place + 1))
+
+  time-at-most : (place : ℕ) → timeAt bytes place ≤ 4294967295
+  time-at-most place =
+      omega (arith, are place, are (place + 1), are (place + 2), are (place + 2 + 1))
+
+  field-fits-widths : (tag value size : ℕ) → FitsWidths (fieldAt bytes tag value size)
+  unfolding fieldAt
+  field-fits-widths tag value size =
+      by-test FitsWidths (eqb tag 1) (λ _. byte-at-most (value + 1)) (λ _.
+      by-test FitsWidths (eqb tag 2)
+      (λ _. (word-at-most (value + 1), time-at-most (value + 3))) (λ _.
+      by-test FitsWidths (eqb tag 3) (λ _. time-at-most (value + 1)) (λ _.
+      by-test FitsWidths (eqb tag 4) (λ _. tt) (λ _.
+      by-test FitsWidths (eqb tag 5) (λ _. word-at-most value) (λ _.
+      by-test FitsWidths (eqb tag 6) (λ _. byte-at-most value) (λ _.
+      byte-at-most value))))))
+
+  pub taken-fits-widths : (place : ℕ) (begun : Bool) {field : Field} {next : ℕ}
+      → readAt bytes place begun ≡ Taken field next → FitsWidths field
+  taken-fits-widths place begun is =
+      rw (taken-tells bytes place begun is .is-field)
+      (field-fits-widths (byteAt bytes place) (place + 3) (wordAt bytes (place + 1)))

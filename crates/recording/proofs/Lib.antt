@@ -1,0 +1,23 @@
+-- The mathematics of recordings. Read `TakenLaws` first: what a reading tells.
+--     Choices        a claim of a choice, by its test
+--     FieldLaws      the table of tags on each way that the code takes
+--     ReadingLaws    the reader's order on each way that the code takes
+--     WordsLaws      the words of a host write, one by one
+--     TakenLaws      what a reading tells: where a field ends, whom a refusal names
+--     InOrder        every field that is taken is in order
+--     MoreBytes      bytes that come behind change no reading that is settled
+--     TakenWords     the words of a host write that was taken
+--     Shifted        a recording read as if it began further on
+--     Determined     each public contract allows one outcome alone
+--     Examples       the definitions at work, by computation
+pub mod Choices
+pub mod FieldLaws
+pub mod ReadingLaws
+pub mod WordsLaws
+pub mod TakenLaws
+pub mod InOrder
+pub mod MoreBytes
+pub mod TakenWords
+pub mod Shifted
+pub mod Determined
+mod Examples

@@ -1,0 +1,212 @@
+-- Bytes that come behind change no reading that is settled (`settled-stays`): a taken field, and
+-- every refusal but 5. 133 bytes settle any (`settled-by-133`). Assumes nothing.
+use mathlib.Core.Path.{_≡_, refl, sym, ap, _∙_}
+use mathlib.Core.Logic.{_≢_}
+use mathlib.Core.Bool.{Bool, true, false, true≢false, cond, not, Bool·beq}
+use mathlib.Core.List.{List, _++_}
+use Prim.Native.Nat.{ℕ, zero, suc, _+_, _*_, _≤_, _<_}
+use native.Mathlib.Omega.{arith}
+use lib.Dec.{eqb, ltb}
+use lib.ListN.{length, length-append, List·getD-append}
+use borrow.Author.Tests.{
+  eqb-true,
+  eqb-false,
+  ltb-true,
+  ltb-false,
+  ne-eqb,
+  le-ltb,
+  not-false,
+}
+use Rattle.recording.specs.declared.Field.{Field}
+use Rattle.recording.specs.declared.Reading.{Reading}
+use Rattle.recording.specs.declared.Reading.the-variants.{Taken, End, Refused}
+use Rattle.recording.specs.Bytes.{bytesLeft, byteAt, wordAt, timeAt, wordsAt}
+use Rattle.recording.specs.Field.{isTag, lengthFits, fieldAt, valueRefusal, ValueThere}
+use Rattle.recording.specs.Reading.{readAt}
+use Rattle.recording.specs.Pieces.{isSettled}
+use Rattle.recording.proofs.Choices.{by-test, same-choice}
+use Rattle.recording.proofs.FieldLaws.{
+  by-refusal,
+  size-at-most,
+  setup-there,
+  word-there,
+  silence-there,
+  address-there,
+  table-there,
+  flags-there,
+}
+
+-- ---- what stands in the front is there still
+
+module _ (front back : List ℕ) where
+  byte-of-more : (place : ℕ) → place < length front
+      → byteAt (front ++ back) place ≡ byteAt front place
+  byte-of-more place inside = List·getD-append front back 0 place inside
+
+  word-of-more : (place : ℕ) → place + 2 ≤ length front
+      → wordAt (front ++ back) place ≡ wordAt front place
+  word-of-more place inside =
+      rw (byte-of-more place (omega arith), byte-of-more (place + 1) (omega arith))
+
+  time-of-more : (place : ℕ) → place + 4 ≤ length front
+      → timeAt (front ++ back) place ≡ timeAt front place
+  time-of-more place inside =
+      rw (word-of-more place (omega arith), word-of-more (place + 2) (omega arith))
+
+  pub words-of-more : (first count : ℕ) → first + 2 * count ≤ length front
+      → wordsAt (front ++ back) first count ≡ wordsAt front first count
+  words-of-more first zero inside = refl
+  words-of-more first (suc count) inside =
+      rw (word-of-more first (omega arith), words-of-more (first + 2) count (omega arith))
+
+  pub field-of-more : (tag value size : ℕ) → ValueThere front tag value size
+      → fieldAt (front ++ back) tag value size ≡ fieldAt front tag value size
+  unfolding fieldAt
+  field-of-more tag value size there =
+      same-choice (eqb tag 1) (λ is.
+      let inside : value + 3 ≤ length front = setup-there there (eqb-true tag 1 is) in
+      rw (
+        byte-of-more value (omega arith),
+        byte-of-more (value + 1) (omega arith),
+        byte-of-more (value + 2) (omega arith),
+      )) (λ setup.
+      same-choice (eqb tag 2) (λ is.
+      let inside : value + 7 ≤ length front = word-there there (eqb-true tag 2 is) in
+      rw (
+        byte-of-more value (omega arith),
+        word-of-more (value + 1) (omega arith),
+        time-of-more (value + 3) (omega arith),
+      )) (λ word.
+      same-choice (eqb tag 3) (λ is.
+      let inside : value + 5 ≤ length front = silence-there there (eqb-true tag 3 is) in
+      rw (byte-of-more value (omega arith), time-of-more (value + 1) (omega arith))) (λ silence.
+      same-choice (eqb tag 4) (λ _. refl) (λ read.
+      same-choice (eqb tag 5) (λ is.
+      let inside : 2 ≤ size = address-there there (eqb-true tag 5 is) in
+      rw (word-of-more value (omega (arith, there .inside)))) (λ write.
+      same-choice (eqb tag 6)
+      (λ is. rw (byte-of-more value (table-there there (eqb-true tag 6 is)))) (λ _.
+      rw (byte-of-more value
+      (flags-there there (eqb-false tag 1 setup) (eqb-false tag 2 word) (eqb-false tag 3 silence)
+      (eqb-false tag 4 read) (eqb-false tag 5 write)))))))))
+
+-- ---- a settled reading stays
+
+record Stays (old new : Reading) : Type 0 where
+  stays : isSettled old ≡ true → new ≡ old
+
+same : {reading : Reading} → Stays reading reading
+same = record { stays = λ _. refl }
+
+-- a test that more bytes may decide otherwise stands before what is not settled ..
+open-way : (old : Reading) {left left′ : Reading} (test test′ : Bool) → isSettled old ≡ false
+    → (test ≡ false → test′ ≡ false) → (test ≡ false → Stays left left′)
+    → Stays (cond test old left) (cond test′ old left′)
+open-way old true test′ unsettled still rest =
+    record { stays = λ settled. absurd (true≢false (sym settled ∙ unsettled)) }
+open-way old false test′ unsettled still rest =
+    record { stays = λ settled. rw (still refl) (rest refl .stays settled) }
+
+-- .. and every other test is as it was
+same-way : (old : Reading) {left left′ : Reading} (test : Bool) → (test ≡ false → Stays left left′)
+    → Stays (cond test old left) (cond test old left′)
+same-way old true rest = same
+same-way old false rest = rest refl
+
+module _ (front back : List ℕ) (place : ℕ) (begun : Bool) where
+  reading-stays : Stays (readAt front place begun) (readAt (front ++ back) place begun)
+  unfolding readAt
+  reading-stays =
+      open-way End (eqb left 0) (eqb left′ 0) refl still-some (λ some.
+      rw (byte-of-more front back place (omega (arith, eqb-false left 0 some)))
+      (same-way (Refused 6 place) (not (isTag tag)) (λ _.
+      open-way (Refused 5 place) (ltb left 3) (ltb left′ 3) refl (still 3) (λ long.
+      rw (word-of-more front back (place + 1) (omega (arith, ltb-false left 3 long)))
+      (same-way (Refused 7 place) (not (lengthFits tag size)) (λ fits.
+      open-way (Refused 5 place) (ltb left all) (ltb left′ all) refl (still all) (λ whole.
+      rw (field-of-more front back tag (place + 3) size (there fits whole)) same)))))))
+    where
+      left : ℕ
+      left = bytesLeft front place
+
+      left′ : ℕ
+      left′ = bytesLeft (front ++ back) place
+
+      tag : ℕ
+      tag = byteAt front place
+
+      size : ℕ
+      size = wordAt front (place + 1)
+
+      all : ℕ
+      all = 3 + size
+
+      more : length (front ++ back) ≡ length front + length back
+      more = length-append front back
+
+      still-some : eqb left 0 ≡ false → eqb left′ 0 ≡ false
+      still-some some = ne-eqb left′ 0 (λ none. eqb-false left 0 some (omega (arith, more)))
+
+      still : (least : ℕ) → ltb left least ≡ false → ltb left′ least ≡ false
+      still least long = le-ltb left′ least (omega (arith, more, ltb-false left least long))
+
+      there : not (lengthFits tag size) ≡ false → ltb left all ≡ false
+          → ValueThere front tag (place + 3) size
+      there fits whole =
+          record {
+            fits = not-false (lengthFits tag size) fits;
+            inside = omega (arith, ltb-false left all whole);
+          }
+
+  -- bytes that come behind change no reading that is settled
+  pub settled-stays : isSettled (readAt front place begun) ≡ true
+      → readAt (front ++ back) place begun ≡ readAt front place begun
+  settled-stays = reading-stays .stays
+
+  pub more-bytes-same-field : {field : Field} {next : ℕ}
+      → readAt front place begun ≡ Taken field next
+      → readAt (front ++ back) place begun ≡ Taken field next
+  more-bytes-same-field is = settled-stays (ap isSettled is) ∙ is
+
+  pub more-bytes-same-refusal : {number named : ℕ}
+      → readAt front place begun ≡ Refused number named → number ≢ 5
+      → readAt (front ++ back) place begun ≡ Refused number named
+  more-bytes-same-refusal {number} is other =
+      settled-stays (ap isSettled is ∙ rw (ne-eqb number 5 other)) ∙ is
+
+-- ---- enough bytes settle a reading: a field has 133 at the most
+
+pub settled-by-133 : (bytes : List ℕ) (place : ℕ) (begun : Bool) → place + 133 ≤ length bytes
+    → isSettled (readAt bytes place begun) ≡ true
+unfolding readAt
+settled-by-133 bytes place begun enough =
+    by-test Settled (eqb left 0) (λ none. absurd (omega (arith, eqb-true left 0 none))) (λ _.
+    by-test Settled (not (isTag tag)) (λ _. refl) (λ _.
+    by-test Settled (ltb left 3) (λ short. absurd (omega (arith, ltb-true left 3 short))) (λ _.
+    by-test Settled (not (lengthFits tag size)) (λ _. refl) (λ fits.
+    by-test Settled (ltb left (3 + size)) (λ short.
+    absurd (omega (
+      arith,
+      ltb-true left (3 + size) short,
+      size-at-most tag size (not-false (lengthFits tag size) fits),
+    ))) (λ _.
+    by-test Settled (Bool·beq begun (eqb tag 1)) (λ _. refl) (λ _.
+    by-test Settled (eqb (valueRefusal field) 0) (λ _. refl) (λ _. not-5 field)))))))
+  where
+    Settled : Reading → Type 0
+    Settled reading = isSettled reading ≡ true
+
+    left : ℕ
+    left = bytesLeft bytes place
+
+    tag : ℕ
+    tag = byteAt bytes place
+
+    size : ℕ
+    size = wordAt bytes (place + 1)
+
+    field : Field
+    field = fieldAt bytes tag (place + 3) size
+
+    not-5 : (other : Field) → not (eqb (valueRefusal other) 5) ≡ true
+    not-5 = by-refusal (λ number. not (eqb number 5) ≡ true) refl refl refl

@@ -1,0 +1,154 @@
+-- A recording may be read as if it began further on: what is read is the same, with every place
+-- counted from there (`dropped-bytes`, `shifted-reading`), and so are the words of a host write
+-- (`dropped-words`, `shifted-words`). Assumes nothing.
+use mathlib.Core.Path.{_≡_, refl, sym}
+use mathlib.Core.Bool.{Bool, not, Bool·beq}
+use mathlib.Core.List.{List, _++_}
+use Prim.Native.Nat.{ℕ, zero, suc, _+_}
+use native.Mathlib.Nat.{add-assoc}
+use native.Mathlib.Omega.{arith}
+use lib.Dec.{eqb, ltb}
+use lib.ListN.{length, drop, length-drop}
+use lib.Seq.{getD-drop, drop-append-seam}
+use Rattle.recording.specs.declared.Field.{Field}
+use Rattle.recording.specs.declared.Field.the-variants.{
+  Setup,
+  Word,
+  Silence,
+  QueueRead,
+  HostWrite,
+  Table,
+  Flags,
+}
+use Rattle.recording.specs.declared.Reading.{Reading}
+use Rattle.recording.specs.Bytes.{bytesLeft, byteAt, wordAt, timeAt, wordsAt}
+use Rattle.recording.specs.Field.{isTag, lengthFits, fieldAt, valueRefusal}
+use Rattle.recording.specs.Reading.{readAt}
+use Rattle.recording.specs.Pieces.{shiftedField, shifted}
+use Rattle.recording.proofs.Choices.{choice-under}
+
+-- the shift is seen in no refusal
+refusal-of-shifted : (start : ℕ) (field : Field)
+    → valueRefusal (shiftedField start field) ≡ valueRefusal field
+refusal-of-shifted start (Setup station table flags) = refl
+refusal-of-shifted start (Word marks value time) = refl
+refusal-of-shifted start (Silence line time) = refl
+refusal-of-shifted start QueueRead = refl
+refusal-of-shifted start (HostWrite address first count) = refl
+refusal-of-shifted start (Table table) = refl
+refusal-of-shifted start (Flags flags) = refl
+
+module _ (start : ℕ) (bytes : List ℕ) where
+  -- ---- numbers
+
+  byte-of-drop : (place : ℕ) → byteAt bytes (start + place) ≡ byteAt (drop start bytes) place
+  byte-of-drop place = sym (getD-drop start bytes place 0)
+
+  word-of-drop : (place : ℕ) → wordAt bytes (start + place) ≡ wordAt (drop start bytes) place
+  word-of-drop place =
+      rw (add-assoc start place 1, byte-of-drop place, byte-of-drop (place + 1))
+
+  time-of-drop : (place : ℕ) → timeAt bytes (start + place) ≡ timeAt (drop start bytes) place
+  time-of-drop place =
+      rw (add-assoc start place 2, word-of-drop place, word-of-drop (place + 2))
+
+  -- the words of a host write
+  pub dropped-words : (first count : ℕ)
+      → wordsAt bytes (start + first) count ≡ wordsAt (drop start bytes) first count
+  dropped-words first zero = refl
+  dropped-words first (suc count) =
+      rw (add-assoc start first 2, word-of-drop first, dropped-words (first + 2) count)
+
+  -- ---- fields and readings
+
+  field-of-drop : (tag value size : ℕ)
+      → fieldAt bytes tag (start + value) size
+      ≡ shiftedField start (fieldAt (drop start bytes) tag value size)
+  unfolding fieldAt
+  field-of-drop tag value size =
+      choice-under shift (eqb tag 1)
+      (rw (
+        further 1,
+        further 2,
+        byte-of-drop value,
+        byte-of-drop (value + 1),
+        byte-of-drop (value + 2),
+      ))
+      (choice-under shift (eqb tag 2)
+      (rw (
+        further 1,
+        further 3,
+        byte-of-drop value,
+        word-of-drop (value + 1),
+        time-of-drop (value + 3),
+      ))
+      (choice-under shift (eqb tag 3)
+      (rw (further 1, byte-of-drop value, time-of-drop (value + 1)))
+      (choice-under shift (eqb tag 4) refl
+      (choice-under shift (eqb tag 5) (rw (word-of-drop value, further 2))
+      (choice-under shift (eqb tag 6) (rw (byte-of-drop value)) (rw (byte-of-drop value)))))))
+    where
+      shift : Field → Field
+      shift = shiftedField start
+
+      further : (more : ℕ) → start + value + more ≡ start + (value + more)
+      further = add-assoc start value
+
+  pub dropped-bytes : (place : ℕ) (begun : Bool)
+      → readAt bytes (start + place) begun ≡ shifted start (readAt (drop start bytes) place begun)
+  unfolding readAt
+  dropped-bytes place begun =
+      rw (
+        same-left,
+        further 1,
+        further 3,
+        byte-of-drop place,
+        word-of-drop (place + 1),
+        field-of-drop tag (place + 3) size,
+        refusal-of-shifted start field,
+      )
+      (choice-under shift (eqb left 0) refl
+      (choice-under shift (not (isTag tag)) refl
+      (choice-under shift (ltb left 3) refl
+      (choice-under shift (not (lengthFits tag size)) refl
+      (choice-under shift (ltb left (3 + size)) refl
+      (choice-under shift (Bool·beq begun (eqb tag 1)) refl
+      (choice-under shift (eqb (valueRefusal field) 0)
+      (rw (add-assoc start (place + 3) size)) refl)))))))
+    where
+      shift : Reading → Reading
+      shift = shifted start
+
+      left : ℕ
+      left = bytesLeft (drop start bytes) place
+
+      tag : ℕ
+      tag = byteAt (drop start bytes) place
+
+      size : ℕ
+      size = wordAt (drop start bytes) (place + 1)
+
+      field : Field
+      field = fieldAt (drop start bytes) tag (place + 3) size
+
+      same-left : bytesLeft bytes (start + place) ≡ left
+      same-left = omega (arith, length-drop start bytes)
+
+      further : (more : ℕ) → start + place + more ≡ start + (place + more)
+      further = add-assoc start place
+
+-- ---- the same with the bytes in front written out
+
+module _ (front back : List ℕ) where
+  pub shifted-words : (first count : ℕ)
+      → wordsAt (front ++ back) (length front + first) count ≡ wordsAt back first count
+  shifted-words first count =
+      rw (drop-append-seam front back) at
+      (dropped-words (length front) (front ++ back) first count)
+
+  pub shifted-reading : (place : ℕ) (begun : Bool)
+      → readAt (front ++ back) (length front + place) begun
+      ≡ shifted (length front) (readAt back place begun)
+  shifted-reading place begun =
+      rw (drop-append-seam front back) at
+      (dropped-bytes (length front) (front ++ back) place begun)

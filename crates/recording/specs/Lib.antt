@@ -1,0 +1,5 @@
+-- Recordings, from bytes to fields to what the reader finds.
+pub mod Bytes
+pub mod Field
+pub mod Reading
+pub mod Pieces

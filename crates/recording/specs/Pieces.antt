@@ -1,0 +1,38 @@
+-- Reading a recording piece by piece. Definitions only. Assumes nothing.
+use mathlib.Core.Bool.{Bool, true, false, not}
+use Prim.Native.Nat.{ℕ, _+_}
+use lib.Dec.{eqb}
+use Rattle.recording.specs.declared.Field.{Field}
+use Rattle.recording.specs.declared.Field.the-variants.{
+  Setup,
+  Word,
+  Silence,
+  QueueRead,
+  HostWrite,
+  Table,
+  Flags,
+}
+use Rattle.recording.specs.declared.Reading.{Reading}
+use Rattle.recording.specs.declared.Reading.the-variants.{Taken, End, Refused}
+
+-- whether a reading stands, whatever bytes come behind: all do but the end and refusal 5
+abbrev pub isSettled : Reading → Bool
+isSettled (Taken field next) = true
+isSettled End = false
+isSettled (Refused number place) = not (eqb number 5)
+
+-- a field with the place of its words counted from `start` bytes earlier
+abbrev pub shiftedField : ℕ → Field → Field
+shiftedField start (Setup station table flags) = Setup station table flags
+shiftedField start (Word marks value time) = Word marks value time
+shiftedField start (Silence line time) = Silence line time
+shiftedField start QueueRead = QueueRead
+shiftedField start (HostWrite address first count) = HostWrite address (start + first) count
+shiftedField start (Table table) = Table table
+shiftedField start (Flags flags) = Flags flags
+
+-- a reading with every place counted from `start` bytes earlier
+abbrev pub shifted : ℕ → Reading → Reading
+shifted start (Taken field next) = Taken (shiftedField start field) (start + next)
+shifted start End = End
+shifted start (Refused number place) = Refused number (start + place)
