@@ -1,0 +1,20 @@
+-- `lines::part::put_one` meets its contract. Assumes nothing.
+use borrow.Author.Needs.{needs}
+use Rattle.lines.proofs.PartLaws.{wrote-one}
+use Rattle.lines.proofs.part.put_one.Statement.{statement}
+use Rattle.lines.proofs.part.put_one.Tie as tie
+
+slice-write-out : tie.Need-slice-write-out
+slice-write-out c = search needs
+
+add-result : tie.Need-add-result
+add-result c = search needs
+
+same-length : tie.Need-same-length
+same-length c = search needs
+
+returns : tie.Need-returns
+returns c = search (needs, wrote-one)
+
+pub put-one-spec : {M : Type 1} → statement M
+put-one-spec = tie.close (tie.spec slice-write-out add-result same-length returns)
