@@ -1,16 +1,16 @@
--- The cycle of calls of `lines::part::put_digits`, which calls itself for the tens, meets its
+-- The cycle of calls of `lines::put_digits`, which calls itself for the tens, meets its
 -- contract. The measure is the places. Assumes nothing.
 use Prim.Native.Nat.{ℕ, _<_}
 use borrow.Author.Needs.{needs}
 use borrow.Fn.Kinds.{In}
 use borrow.Fn.PlainCycle.{Measures, is, falls, and}
 use Rattle.lines.proofs.PartLaws.{digits-none, digits-last, digits-more}
-use Rattle.lines.proofs.part.put_digits.Reads as put-digits
-use Rattle.lines.proofs.part.put_digits.Kinds as put-digits-kinds
-use Rattle.lines.proofs.part.+put_digits.Lts-put_digits as put-digits-lts
-use Rattle.lines.proofs.part.put_one.Reads as put-one-reads
-use Rattle.lines.proofs.part.+put_digits.{statement}
-use Rattle.lines.proofs.part.+put_digits.Tie.{close}
+use Rattle.lines.proofs.put_digits.Reads as put-digits
+use Rattle.lines.proofs.put_digits.Kinds as put-digits-kinds
+use Rattle.lines.proofs.+put_digits.Lts-put_digits as put-digits-lts
+use Rattle.lines.proofs.put_one.Reads as put-one-reads
+use Rattle.lines.proofs.+put_digits.{statement}
+use Rattle.lines.proofs.+put_digits.Tie.{close}
 
 abbrev μ-put-digits : Measures 1 put-digits-kinds.ps ℕ
 μ-put-digits κs a = a .1 .1 .1 .0

@@ -1,8 +1,8 @@
--- `lines::part::put_hex_byte` meets its contract. Assumes nothing.
+-- `lines::put_hex_byte` meets its contract. Assumes nothing.
 use borrow.Author.Needs.{needs}
 use Rattle.lines.proofs.PartLaws.{wrote-hex-byte}
-use Rattle.lines.proofs.part.put_hex_byte.Statement.{statement}
-use Rattle.lines.proofs.part.put_hex_byte.Tie as tie
+use Rattle.lines.proofs.put_hex_byte.Statement.{statement}
+use Rattle.lines.proofs.put_hex_byte.Tie as tie
 
 hex-digit-requires : tie.Need-hex-digit-requires
 hex-digit-requires c κs = search needs

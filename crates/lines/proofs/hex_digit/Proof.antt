@@ -1,8 +1,8 @@
--- `lines::part::hex_digit` meets its contract, by the cases of its test. Assumes nothing.
+-- `lines::hex_digit` meets its contract, by the cases of its test. Assumes nothing.
 use borrow.Author.Needs.{needs}
 use Rattle.lines.proofs.PartLaws.{digit-below-ten, digit-from-ten}
-use Rattle.lines.proofs.part.hex_digit.Statement.{statement}
-use Rattle.lines.proofs.part.hex_digit.Tie as tie
+use Rattle.lines.proofs.hex_digit.Statement.{statement}
+use Rattle.lines.proofs.hex_digit.Tie as tie
 
 cast-result : tie.Need-cast-result
 cast-result c = search needs

@@ -1,8 +1,8 @@
--- `lines::part::put_word` meets its contract: a blank, then the digits. Assumes nothing.
+-- `lines::put_word` meets its contract: a blank, then the digits. Assumes nothing.
 use borrow.Author.Needs.{needs}
 use Rattle.lines.proofs.PartLaws.{wrote-word}
-use Rattle.lines.proofs.part.put_word.Statement.{statement}
-use Rattle.lines.proofs.part.put_word.Tie as tie
+use Rattle.lines.proofs.put_word.Statement.{statement}
+use Rattle.lines.proofs.put_word.Tie as tie
 
 put-one-requires : tie.Need-put-one-requires
 put-one-requires c κs = search needs

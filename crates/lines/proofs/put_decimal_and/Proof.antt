@@ -1,8 +1,8 @@
--- `lines::part::put_decimal_and` meets its contract: the number, then the byte. Assumes nothing.
+-- `lines::put_decimal_and` meets its contract: the number, then the byte. Assumes nothing.
 use borrow.Author.Needs.{needs}
 use Rattle.lines.proofs.PartLaws.{wrote-then}
-use Rattle.lines.proofs.part.put_decimal_and.Statement.{statement}
-use Rattle.lines.proofs.part.put_decimal_and.Tie as tie
+use Rattle.lines.proofs.put_decimal_and.Statement.{statement}
+use Rattle.lines.proofs.put_decimal_and.Tie as tie
 
 put-decimal-requires : tie.Need-put-decimal-requires
 put-decimal-requires c κs = search needs

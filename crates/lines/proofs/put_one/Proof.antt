@@ -1,8 +1,8 @@
--- `lines::part::put_one` meets its contract. Assumes nothing.
+-- `lines::put_one` meets its contract. Assumes nothing.
 use borrow.Author.Needs.{needs}
 use Rattle.lines.proofs.PartLaws.{wrote-one}
-use Rattle.lines.proofs.part.put_one.Statement.{statement}
-use Rattle.lines.proofs.part.put_one.Tie as tie
+use Rattle.lines.proofs.put_one.Statement.{statement}
+use Rattle.lines.proofs.put_one.Tie as tie
 
 slice-write-out : tie.Need-slice-write-out
 slice-write-out c = search needs

@@ -1,8 +1,8 @@
--- `lines::part::put_decimal` meets its contract: twenty places. Assumes nothing.
+-- `lines::put_decimal` meets its contract: twenty places. Assumes nothing.
 use borrow.Author.Needs.{needs}
 use Rattle.lines.specs.Digits.{decimal}
-use Rattle.lines.proofs.part.put_decimal.Statement.{statement}
-use Rattle.lines.proofs.part.put_decimal.Tie as tie
+use Rattle.lines.proofs.put_decimal.Statement.{statement}
+use Rattle.lines.proofs.put_decimal.Tie as tie
 
 put-digits-requires : tie.Need-put-digits-requires
 put-digits-requires c κs = search needs

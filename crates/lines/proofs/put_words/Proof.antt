@@ -1,4 +1,4 @@
--- `lines::part::put_words` meets its contract. The invariant of its loop is `WordsLeft`; the
+-- `lines::put_words` meets its contract. The invariant of its loop is `WordsLeft`; the
 -- measure is how many words are left. Assumes nothing.
 use mathlib.Core.Path.{_≡_}
 use Prim.Native.Nat.{_+_, _-_, _*_, _≤_}
@@ -7,8 +7,8 @@ use borrow.Author.Needs.{needs}
 use Rattle.lines.specs.Lines.{eachWord}
 use Rattle.lines.specs.Written.{stored}
 use Rattle.lines.proofs.LoopLaws.{WordsLeft, words-all, words-less, words-none}
-use Rattle.lines.proofs.part.put_words.Statement.{statement}
-use Rattle.lines.proofs.part.put_words.Tie as tie
+use Rattle.lines.proofs.put_words.Statement.{statement}
+use Rattle.lines.proofs.put_words.Tie as tie
 
 abbrev Inv-loop : tie.InvT-loop
 Inv-loop out₀ at words next₀ word₀ out next word =

@@ -1,4 +1,4 @@
--- `lines::part::put_text` meets its contract. The invariant of its loop is `BytesLeft`; the
+-- `lines::put_text` meets its contract. The invariant of its loop is `BytesLeft`; the
 -- measure is how many bytes are left. Assumes nothing.
 use mathlib.Core.Path.{_≡_}
 use Prim.Native.Nat.{_-_, _≤_}
@@ -6,8 +6,8 @@ use lib.ListN.{length}
 use lib.Seq.{sets}
 use borrow.Author.Needs.{needs}
 use Rattle.lines.proofs.LoopLaws.{BytesLeft, bytes-all, bytes-less, bytes-none}
-use Rattle.lines.proofs.part.put_text.Statement.{statement}
-use Rattle.lines.proofs.part.put_text.Tie as tie
+use Rattle.lines.proofs.put_text.Statement.{statement}
+use Rattle.lines.proofs.put_text.Tie as tie
 
 abbrev Inv-loop : tie.InvT-loop
 Inv-loop out₀ at bytes byte₀ out byte =

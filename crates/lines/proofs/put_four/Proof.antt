@@ -1,10 +1,10 @@
--- `lines::part::put_four` meets its contract; a store keeps the length. Assumes nothing.
+-- `lines::put_four` meets its contract; a store keeps the length. Assumes nothing.
 use native.Mathlib.Omega.{arith}
 use lib.ListN.{length-set}
 use borrow.Author.Needs.{needs}
 use Rattle.lines.proofs.PartLaws.{wrote-four}
-use Rattle.lines.proofs.part.put_four.Statement.{statement}
-use Rattle.lines.proofs.part.put_four.Tie as tie
+use Rattle.lines.proofs.put_four.Statement.{statement}
+use Rattle.lines.proofs.put_four.Tie as tie
 
 slice-write-out : tie.Need-slice-write-out
 slice-write-out c = search needs

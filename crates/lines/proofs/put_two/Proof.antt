@@ -1,10 +1,10 @@
--- `lines::part::put_two` meets its contract; a store keeps the length. Assumes nothing.
+-- `lines::put_two` meets its contract; a store keeps the length. Assumes nothing.
 use native.Mathlib.Omega.{arith}
 use lib.ListN.{length-set}
 use borrow.Author.Needs.{needs}
 use Rattle.lines.proofs.PartLaws.{wrote-two}
-use Rattle.lines.proofs.part.put_two.Statement.{statement}
-use Rattle.lines.proofs.part.put_two.Tie as tie
+use Rattle.lines.proofs.put_two.Statement.{statement}
+use Rattle.lines.proofs.put_two.Tie as tie
 
 slice-write-out : tie.Need-slice-write-out
 slice-write-out c = search needs
