@@ -1,0 +1,5 @@
+-- A tray run. Read `Run` first: what a recording prints.
+pub mod Happening
+pub mod Run
+pub mod Window
+pub mod Pieces

@@ -1,0 +1,105 @@
+-- A tray run: the fields of a recording one by one over the terminal, and the lines that are
+-- printed. Definitions only. Assumes nothing.
+use mathlib.Core.Bool.{Bool, true, false, cond}
+use mathlib.Core.List.{List, [], _∷_, _++_}
+use Prim.Native.Nat.{ℕ, zero, suc, _+_, _%_, _^_}
+use lib.Dec.{eqb}
+use lib.ListN.{length, drop, replicate}
+use Rattle.card.specs.Memory.{cardWords}
+use Rattle.card.specs.Sent.{sentPart}
+use Rattle.queue.specs.Queue.{emptyQueue}
+use Rattle.terminal.specs.declared.state.Reply.{Reply}
+use Rattle.terminal.specs.declared.state.Reply.the-variants.{Silent, Status, Words, Last}
+use Rattle.terminal.specs.declared.state.Answer.{Answer}
+use Rattle.terminal.specs.declared.state.Answer.the-variants.{Replied, QueueWord}
+use Rattle.terminal.specs.State.{Card, card, coreAtSetup}
+use Rattle.terminal.specs.Event.{Shown}
+use Rattle.recording.specs.declared.Field.{Field}
+use Rattle.recording.specs.declared.Reading.{Reading}
+use Rattle.recording.specs.declared.Reading.the-variants.{Taken, End, Refused}
+use Rattle.recording.specs.Reading.{readAt}
+use Rattle.lines.specs.Lines.{statusLine, queueLine, endLine, refusalLine}
+use Rattle.tray.specs.Happening.{happeningOf, happened}
+
+-- how far a run has come: whether a setup has been read, the terminal and the card memory, how many
+-- fields were taken, and where in the recording the next one begins
+pub record Tray : Type 0 where
+  pub begun : Bool
+  pub card : Card
+  pub fields : ℕ
+  pub offset : ℕ
+
+-- before the first field: RAM is zero, and no station has number 31
+unfoldable pub trayAtStart : Tray
+trayAtStart =
+    record {
+      begun = false;
+      card = card (coreAtSetup 31 0 0) emptyQueue (replicate cardWords 0);
+      fields = 0;
+      offset = 0;
+    }
+
+-- counts and offsets have 64 bits
+abbrev pub counted : ℕ → ℕ
+counted number = number % 2 ^ 64
+
+-- ---- lines
+
+-- what is printed of a reply: nothing of silence; else its status and the words sent
+abbrev pub replyLine : List ℕ → Reply → List ℕ
+replyLine ram Silent = []
+replyLine ram (Status status) = statusLine status []
+replyLine ram (Words status block count) = statusLine status (sentPart ram block count)
+replyLine ram (Last status command) = statusLine status (command ∷ [])
+
+abbrev pub answerLine : List ℕ → Answer → List ℕ
+answerLine ram (Replied reply) = replyLine ram reply
+answerLine ram (QueueWord word) = queueLine word
+
+-- what an outcome prints, the words sent being those in the RAM
+abbrev pub shownLine : Shown → List ℕ
+shownLine new = answerLine (new .card .ram) (new .answer)
+
+-- the last line: END with the fields taken, or the number of the refusal with the offset of its
+-- field; number 0 is no refusal
+unfoldable pub lastLine : ℕ → Tray → List ℕ
+lastLine number old =
+    cond (eqb number 0) (endLine (old .fields)) (refusalLine number (old .offset))
+
+-- ---- the run
+
+-- a field of these bytes is taken, and the next begins so many bytes further on
+unfoldable pub taking : List ℕ → Field → ℕ → Tray → Tray
+taking bytes field size old =
+    record {
+      begun = true;
+      card = happened (happeningOf bytes field) (old .card) .card;
+      fields = counted (old .fields + 1);
+      offset = counted (old .offset + size);
+    }
+
+-- what the field prints
+unfoldable pub takingLine : List ℕ → Field → Tray → List ℕ
+takingLine bytes field old = shownLine (happened (happeningOf bytes field) (old .card))
+
+-- what is printed from a reading on: of a field that is taken its line, and then what `rest` prints
+-- of the bytes behind it; else the last line
+unfoldable pub printedOf : Reading → (Tray → List ℕ → List ℕ) → Tray → List ℕ → List ℕ
+printedOf (Taken field next) rest old bytes =
+    takingLine bytes field old ++ rest (taking bytes field next old) (drop next bytes)
+printedOf End rest old bytes = lastLine 0 old
+printedOf (Refused number place) rest old bytes = lastLine number old
+
+-- in so many fields at the most
+unfoldable pub printedBy : ℕ → Tray → List ℕ → List ℕ
+printedBy zero old bytes = []
+printedBy (suc fields) old bytes =
+    printedOf (readAt bytes 0 (old .begun)) (printedBy fields) old bytes
+
+-- what is printed of the bytes that are left; they hold fewer fields than bytes
+unfoldable pub printedFrom : Tray → List ℕ → List ℕ
+printedFrom old bytes = printedBy (suc (length bytes)) old bytes
+
+-- what the program prints of a recording
+unfoldable pub printed : List ℕ → List ℕ
+printed bytes = printedFrom trayAtStart bytes
