@@ -133,7 +133,7 @@ pub fn decimal(out: &mut [u8], at: usize, number: u64) -> usize
 // ---- the parts of a line
 
 // How many bytes are left from a place on: none where it lies past the end.
-fn left_from(size: usize, at: usize) -> usize
+pub fn left_from(size: usize, at: usize) -> usize
     ensures { λ left. ⌜ left ≡ size - at ⌝ }
 {
     if size < at {

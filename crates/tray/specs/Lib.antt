@@ -2,4 +2,5 @@
 pub mod Happening
 pub mod Run
 pub mod Window
+pub mod Held
 pub mod Pieces

@@ -62,9 +62,9 @@ shownLine new = answerLine (new .card .ram) (new .answer)
 
 -- the last line: END with the fields taken, or the number of the refusal with the offset of its
 -- field; number 0 is no refusal
-unfoldable pub lastLine : ℕ → Tray → List ℕ
-lastLine number old =
-    cond (eqb number 0) (endLine (old .fields)) (refusalLine number (old .offset))
+unfoldable pub lastLine : ℕ → ℕ → ℕ → List ℕ
+lastLine number fields offset =
+    cond (eqb number 0) (endLine fields) (refusalLine number offset)
 
 -- ---- the run
 
@@ -87,8 +87,9 @@ takingLine bytes field old = shownLine (happened (happeningOf bytes field) (old 
 unfoldable pub printedOf : Reading → (Tray → List ℕ → List ℕ) → Tray → List ℕ → List ℕ
 printedOf (Taken field next) rest old bytes =
     takingLine bytes field old ++ rest (taking bytes field next old) (drop next bytes)
-printedOf End rest old bytes = lastLine 0 old
-printedOf (Refused number place) rest old bytes = lastLine number old
+printedOf End rest old bytes = lastLine 0 (old .fields) (old .offset)
+printedOf (Refused number place) rest old bytes =
+    lastLine number (old .fields) (old .offset)
 
 -- in so many fields at the most
 unfoldable pub printedBy : ℕ → Tray → List ℕ → List ℕ

@@ -6,10 +6,11 @@ use mathlib.Core.List.{List}
 use Prim.Native.Nat.{ℕ, zero, suc, _-_, _^_}
 use lib.Dec.{eqb, ltb}
 use lib.ListN.{length}
+use Rattle.recording.specs.declared.Field.{Field}
 use Rattle.recording.specs.declared.Reading.{Reading}
 use Rattle.recording.specs.declared.Reading.the-variants.{Taken, End, Refused}
 use Rattle.recording.specs.Reading.{readAt}
-use Rattle.lines.specs.Written.{Put, lineRoom, lineWritten}
+use Rattle.lines.specs.Written.{Put, put, lineRoom, lineWritten}
 use Rattle.tray.specs.declared.Stop.{Stop}
 use Rattle.tray.specs.declared.Stop.the-variants.{Going, Hungry, Full, Over}
 use Rattle.tray.specs.Run.{Tray, taking, takingLine, lastLine}
@@ -34,19 +35,36 @@ stopping stop old =
 abbrev pub mayGoOn : ℕ → Bool
 mayGoOn number = eqb number 0 || eqb number 5
 
--- no field is taken: more bytes are needed, or, if these are the last, the last line is printed
-unfoldable pub stoppedAt : ℕ → Bool → Passed → Passed
-stoppedAt number last old =
-    cond (not last && mayGoOn number) (stopping Hungry old)
-    (passed (old .tray) (old .at)
-    (lineWritten (old .out) (old .put) (lastLine number (old .tray))) Over)
+-- what is left of the buffer where no field is taken, and why the call stops
+pub record Stopped : Type 0 where
+  pub left : Put
+  pub stop : Stop
 
-unfoldable pub passing : Reading → List ℕ → Bool → Passed → Passed
-passing (Taken field next) window last old =
+abbrev pub stopped : Put → Stop → Stopped
+stopped left stop = record { left = left; stop = stop }
+
+-- more bytes are needed or, where these are the last, the last line is printed
+unfoldable pub stoppedAt : ℕ → Bool → ℕ → ℕ → List ℕ → ℕ → Stopped
+stoppedAt number last fields offset out at =
+    cond (not last && mayGoOn number) (stopped (put at out) Hungry)
+    (stopped (lineWritten out at (lastLine number fields offset)) Over)
+
+-- no field is taken, by the number of a refusal or 0 for the end of the bytes
+abbrev pub stopsAt : ℕ → Bool → Passed → Passed
+stopsAt number last old =
+    let end = stoppedAt number last (old .tray .fields) (old .tray .offset) (old .out) (old .put) in
+    passed (old .tray) (old .at) (end .left) (end .stop)
+
+-- a field is taken, and its line is printed
+unfoldable pub takes : List ℕ → Field → ℕ → Passed → Passed
+takes window field next old =
     passed (taking window field (next - old .at) (old .tray)) next
     (lineWritten (old .out) (old .put) (takingLine window field (old .tray))) Going
-passing End window last old = stoppedAt 0 last old
-passing (Refused number place) window last old = stoppedAt number last old
+
+unfoldable pub passing : Reading → List ℕ → Bool → Passed → Passed
+passing (Taken field next) window last old = takes window field next old
+passing End window last old = stopsAt 0 last old
+passing (Refused number place) window last old = stopsAt number last old
 
 -- one field, if there is room for its line
 unfoldable pub turn : List ℕ → Bool → Passed → Passed

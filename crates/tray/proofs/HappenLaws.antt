@@ -1,0 +1,138 @@
+-- The laws of `specs/Happening.antt`, as the code does what a field tells: a law for each kind of
+-- field. Assumes nothing.
+use mathlib.Core.Path.{_≡_, refl, sym, ap, _∙_}
+use mathlib.Core.Bool.{Bool}
+use mathlib.Core.List.{List}
+use Prim.Native.Nat.{ℕ, _-_}
+use native.Mathlib.Omega.{arith}
+use lib.Dec.{eqb}
+use lib.ListN.{length, take, drop}
+use lib.Seq.{sets}
+use Rattle.queue.specs.declared.Ring.{Ring}
+use Rattle.queue.specs.declared.RingRead.{RingRead}
+use Rattle.queue.specs.Queue.{queue, emptyQueue, readFrom}
+use Rattle.message.specs.declared.state.Word.{Word}
+use Rattle.message.specs.Message.{movedMessage}
+use Rattle.terminal.specs.declared.state.Core.{Core}
+use Rattle.terminal.specs.declared.state.Held.{Held}
+use Rattle.terminal.specs.declared.state.Heard.{Heard}
+use Rattle.terminal.specs.declared.state.Reply.the-variants.{Silent}
+use Rattle.terminal.specs.State.{Card, card, withTable, withFlags, withMessage, coreAtSetup}
+use Rattle.terminal.specs.Event.{Shown, shown, seen, replied, queueWord}
+use Rattle.terminal.specs.WordStep.{wordStep}
+use Rattle.terminal.specs.SilenceStep.{silenceStep}
+use Rattle.terminal.specs.Machine.{
+  step,
+  queueReadStep,
+  hostWriteStep,
+  tableMoveStep,
+  flagsWriteStep,
+}
+use Rattle.terminal.specs.Actions.{wordOf}
+use Rattle.terminal.proofs.ActionLaws.{words-are-silent}
+use Rattle.recording.specs.declared.Field.{Field}
+use Rattle.recording.specs.declared.Field.the-variants as field
+use Rattle.recording.specs.Bytes.{wordsAt, withWords}
+use Rattle.recording.proofs.WordsLaws.{front-of-copy}
+use Rattle.tray.specs.declared.Happened.{Happened}
+use Rattle.tray.specs.Happening.{happeningOf, happened}
+use Rattle.tray.specs.Held.{cardOf, WordsIn, WordsThere}
+
+abbrev quiet : Core → Ring → Happened
+quiet core ring =
+    record { held = record { core = core; ring = ring }; answer = replied Silent }
+
+module _ (told : Field) (window places ram : List ℕ) (held : Held) where
+  abbrev before : Card
+  before = cardOf held places ram
+
+  abbrev comes : Shown
+  comes = happened (happeningOf window told) before
+
+  pub setup-comes : (station table flags : ℕ) (core : Core) (ring : Ring) (left : Happened)
+      (places′ : List ℕ)
+      → told ≡ field.Setup station table flags
+      → queue places′ ring ≡ emptyQueue
+      → core ≡ coreAtSetup station table flags
+      → left ≡ quiet core ring
+      → shown (cardOf (left .held) places′ ram) (left .answer) ≡ comes
+  unfolding happened happeningOf
+  setup-comes station table flags core ring left places′ is is-queue is-core is-left =
+      rw (is, is-left, is-core, is-queue)
+
+  pub word-comes : (marks value time : ℕ) (heard : Word) (left : Held) (places′ ram′ : List ℕ)
+      → told ≡ field.Word marks value time
+      → heard ≡ wordOf marks value time
+      → cardOf left places′ ram′ ≡ wordStep heard before .card
+      → shown (cardOf left places′ ram′) (replied Silent) ≡ comes
+  unfolding happened happeningOf step
+  word-comes marks value time heard left places′ ram′ is is-heard is-left =
+      rw (is, is-left, ← is-heard, words-are-silent heard before)
+
+  pub silence-comes : (line time : ℕ) (heard : Heard) (places′ ram′ : List ℕ)
+      → told ≡ field.Silence line time
+      → shown (cardOf (heard .held) places′ ram′) (replied (heard .reply))
+      ≡ seen (silenceStep (eqb line 1) time before)
+      → shown (cardOf (heard .held) places′ ram′) (replied (heard .reply)) ≡ comes
+  unfolding happened happeningOf step
+  silence-comes line time heard places′ ram′ is is-heard = rw (is, is-heard)
+
+  pub queue-read-comes : (taken : RingRead)
+      → told ≡ field.QueueRead
+      → taken ≡ readFrom (queue places (held .ring))
+      → shown (card (held .core) (queue places (taken .ring)) ram) (queueWord (taken .word)) ≡ comes
+  unfolding happened happeningOf step queueReadStep
+  queue-read-comes taken is is-taken = rw (is, is-taken)
+
+  pub host-write-comes : (address first count : ℕ) (left : Happened) (ram′ : List ℕ)
+      → told ≡ field.HostWrite address first count
+      → ram′ ≡ sets ram address (wordsAt window first count)
+      → left ≡ quiet (held .core) (held .ring)
+      → shown (cardOf (left .held) places ram′) (left .answer) ≡ comes
+  unfolding happened happeningOf step hostWriteStep
+  host-write-comes address first count left ram′ is is-ram is-left = rw (is, is-left, is-ram)
+
+  pub table-comes : (table : ℕ) (core : Core) (left : Happened)
+      → told ≡ field.Table table
+      → core ≡ withTable table (withMessage (movedMessage (held .core .message)) (held .core))
+      → left ≡ quiet core (held .ring)
+      → shown (cardOf (left .held) places ram) (left .answer) ≡ comes
+  unfolding happened happeningOf step tableMoveStep
+  table-comes table core left is is-core is-left = rw (is, is-left, is-core)
+
+  pub flags-come : (flags : ℕ) (core : Core) (left : Happened)
+      → told ≡ field.Flags flags
+      → core ≡ withFlags flags (held .core)
+      → left ≡ quiet core (held .ring)
+      → shown (cardOf (left .held) places ram) (left .answer) ≡ comes
+  unfolding happened happeningOf step flagsWriteStep
+  flags-come flags core left is is-core is-left = rw (is, is-left, is-core)
+
+pub ruleset happenings = (
+  setup-comes,
+  word-comes,
+  silence-comes,
+  queue-read-comes,
+  host-write-comes,
+  table-comes,
+  flags-come,
+)
+
+-- the words of a host write stand in the window
+pub write-there : (window : List ℕ) (told : Field) (address first count : ℕ)
+    → told ≡ field.HostWrite address first count → WordsThere window told
+    → WordsIn window first count
+write-there window told address first count is held = held .words address first count is
+
+-- the words that were copied are those that stand there
+pub words-written : (window ram words words′ ram′ : List ℕ) (address first count : ℕ)
+    → WordsIn window first count → 64 ≡ length words
+    → words′ ≡ withWords words window first count
+    → ram′ ≡ sets ram address (take (count - 0) (drop 0 words′))
+    → ram′ ≡ sets ram address (wordsAt window first count)
+words-written window ram words words′ ram′ address first count within long is-words is-ram =
+    let all : count - 0 ≡ count = omega arith in
+    let copied : take count words′ ≡ wordsAt window first count =
+    rw is-words
+    (front-of-copy words window first count (omega (arith, within .few)) (within .there)) in
+    rw (is-ram, all, copied)

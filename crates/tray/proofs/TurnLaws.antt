@@ -1,0 +1,134 @@
+-- The laws of `specs/Window.antt`, as the code takes one field of a window. Assumes nothing.
+use mathlib.Core.Path.{_≡_, refl, sym, ap, _∙_}
+use mathlib.Core.Bool.{Bool, true, false}
+use mathlib.Core.List.{List}
+use Prim.Native.Nat.{ℕ, _+_, _-_, _≤_, _<_, _%_, _^_}
+use native.Mathlib.Omega.{arith}
+use lib.Dec.{ltb}
+use lib.ListN.{length}
+use borrow.Author.Tests.{lt-ltb, le-ltb}
+use Rattle.terminal.specs.declared.state.Held.{Held}
+use Rattle.terminal.specs.declared.state.Answer.{Answer}
+use Rattle.terminal.specs.Event.{shown}
+use Rattle.recording.specs.declared.Field.{Field}
+use Rattle.recording.specs.declared.Field.the-variants.{HostWrite}
+use Rattle.recording.specs.declared.Reading.{Reading}
+use Rattle.recording.specs.declared.Reading.the-variants.{Taken, End, Refused}
+use Rattle.recording.specs.Reading.{readAt}
+use Rattle.recording.proofs.TakenLaws.{taken-within}
+use Rattle.recording.proofs.InOrder.{taken-in-order}
+use Rattle.recording.proofs.TakenWords.{taken-words-there}
+use Rattle.lines.specs.Written.{Put, put, lineRoom, lineWritten}
+use Rattle.tray.specs.declared.Happened.{Happened}
+use Rattle.tray.specs.declared.Ran.{Ran}
+use Rattle.tray.specs.declared.Run.{Run}
+use Rattle.tray.specs.declared.Stop.{Stop}
+use Rattle.tray.specs.declared.Stop.the-variants.{Going, Full, Over}
+use Rattle.tray.specs.Happening.{happeningOf, happened}
+use Rattle.tray.specs.Run.{answerLine, counted, taking, takingLine}
+use Rattle.tray.specs.Window.{Passed, stopped, stoppedAt, takes, passing, turn}
+use Rattle.tray.specs.Held.{cardOf, trayOf, passedOf, WordsThere, WasRead}
+
+-- ---- a field that is taken
+
+module _ (ran : Ran) (places ram out window : List ℕ) (told : Field) (next : ℕ) where
+  abbrev old : Passed
+  old = passedOf ran places ram out
+
+  pub field-taken : (left : Happened) (places′ ram′ out′ : List ℕ) (put′ fields offset : ℕ)
+      → shown (cardOf (left .held) places′ ram′) (left .answer)
+      ≡ happened (happeningOf window told) (cardOf (ran .run .held) places ram)
+      → put put′ out′ ≡ lineWritten out (ran .put) (answerLine ram′ (left .answer))
+      → fields ≡ (ran .run .fields + 1) % 2 ^ 64
+      → offset ≡ (ran .run .offset + (next - ran .at)) % 2 ^ 64
+      → passedOf (record {
+        run =
+            record { held = left .held; begun = true; fields = fields; offset = offset };
+        at = next;
+        put = put′;
+        stop = Going;
+      }) places′ ram′ out′
+      ≡ takes window told next old
+  unfolding takes taking takingLine
+  field-taken left places′ ram′ out′ put′ fields offset is-left is-put is-fields is-offset =
+      rw (← is-left, ← is-put, is-fields, is-offset)
+
+-- a field that was read has its words in the window, and ends further on
+pub reads-on : (window : List ℕ) (at : ℕ) (begun : Bool) (reading : Reading) (told : Field)
+    (next : ℕ)
+    → reading ≡ readAt window at begun → reading ≡ Taken told next
+    → WasRead window told at next
+reads-on window at begun reading told next is-reading is =
+    let taken : readAt window at begun ≡ Taken told next = sym is-reading ∙ is in
+    record {
+      words =
+          record {
+            words =
+                λ address first count is-write.
+                let write : readAt window at begun ≡ Taken (HostWrite address first count) next =
+                taken ∙ ap (λ (any : Field). Taken any next) is-write in
+                record {
+                  few = taken-in-order window at begun write .at-most;
+                  there = taken-words-there window at begun write;
+                };
+          };
+      further = omega (arith, taken-within window at begun taken .moves-on);
+    }
+
+-- what the record tells, for `search` and `omega`
+pub words-of-read : {window : List ℕ} {told : Field} {at next : ℕ} → WasRead window told at next
+    → WordsThere window told
+words-of-read read = read .words
+
+pub further-of-read : {window : List ℕ} {told : Field} {at next : ℕ}
+    → WasRead window told at next → at ≤ next
+further-of-read read = read .further
+
+pub ruleset was-read = (words-of-read, further-of-read)
+
+-- ---- a turn
+
+module _ (ran : Ran) (places ram out window : List ℕ) (last : Bool) (room : ℕ)
+    (is-room : room ≡ length out - ran .put) where
+  abbrev before : Passed
+  before = passedOf ran places ram out
+
+  pub turn-full : (left : Ran) → room < lineRoom
+      → left ≡ record { run = ran .run; at = ran .at; put = ran .put; stop = Full }
+      → passedOf left places ram out ≡ turn window last before
+  unfolding turn
+  turn-full left short is-left =
+      rw (is-left, lt-ltb (length out - ran .put) lineRoom (rw is-room at short))
+
+  module _ (reading : Reading) (enough : lineRoom ≤ room)
+      (is-reading : reading ≡ readAt window (ran .at) (ran .run .begun)) where
+    turn-by : passing reading window last before ≡ turn window last before
+    unfolding turn
+    turn-by = rw (is-reading, le-ltb (length out - ran .put) lineRoom (rw is-room at enough))
+
+    pub turn-takes : (told : Field) (next : ℕ) (new : Passed) → reading ≡ Taken told next
+        → new ≡ takes window told next before → new ≡ turn window last before
+    unfolding passing
+    turn-takes told next new is is-new = rw (← turn-by, is) is-new
+
+    module _ (left : Ran) (put′ : ℕ) (stop : Stop) (out′ : List ℕ)
+        (is-left : left ≡ record { run = ran .run; at = ran .at; put = put′; stop = stop }) where
+      pub turn-ends : reading ≡ End
+          → stopped (put put′ out′) stop
+          ≡ stoppedAt 0 last (ran .run .fields) (ran .run .offset) out (ran .put)
+          → passedOf left places ram out′ ≡ turn window last before
+      unfolding passing
+      turn-ends is is-stopped = rw (← turn-by, is, is-left, ← is-stopped)
+
+      pub turn-refuses : (number place : ℕ) → reading ≡ Refused number place
+          → stopped (put put′ out′) stop
+          ≡ stoppedAt number last (ran .run .fields) (ran .run .offset) out (ran .put)
+          → passedOf left places ram out′ ≡ turn window last before
+      unfolding passing
+      turn-refuses number place is is-stopped = rw (← turn-by, is, is-left, ← is-stopped)
+
+pub ruleset turning = (turn-full, turn-takes, turn-ends, turn-refuses)
+
+-- a last line that is printed
+pub over-line : {line line′ : Put} → line ≡ line′ → stopped line Over ≡ stopped line′ Over
+over-line is = ap (λ (left : Put). stopped left Over) is

@@ -1,0 +1,57 @@
+-- What the code holds of a run, as the definitions have it. Definitions only. Assumes nothing.
+use mathlib.Core.Path.{_≡_}
+use mathlib.Core.List.{List}
+use Prim.Native.Nat.{ℕ, _*_, _≤_}
+use Rattle.queue.specs.Queue.{queue}
+use Rattle.terminal.specs.declared.state.Held.{Held}
+use Rattle.terminal.specs.declared.state.Answer.{Answer}
+use Rattle.terminal.specs.State.{Card, card}
+use Rattle.terminal.specs.Event.{Shown, shown}
+use Rattle.recording.specs.declared.Field.{Field}
+use Rattle.recording.specs.declared.Field.the-variants.{HostWrite}
+use Rattle.recording.specs.Bytes.{bytesLeft}
+use Rattle.tray.specs.declared.Run.{Run}
+use Rattle.tray.specs.declared.Ran.{Ran}
+use Rattle.tray.specs.Run.{Tray}
+use Rattle.tray.specs.Window.{Passed}
+
+-- the queue's places and the RAM are lent
+abbrev pub cardOf : Held → List ℕ → List ℕ → Card
+cardOf held places ram = card (held .core) (queue places (held .ring)) ram
+
+abbrev pub trayOf : Run → List ℕ → List ℕ → Tray
+trayOf run places ram =
+    record {
+      begun = run .begun;
+      card = cardOf (run .held) places ram;
+      fields = run .fields;
+      offset = run .offset;
+    }
+
+-- so is the buffer
+abbrev pub passedOf : Ran → List ℕ → List ℕ → List ℕ → Passed
+passedOf ran places ram out =
+    record {
+      tray = trayOf (ran .run) places ram;
+      at = ran .at;
+      put = ran .put;
+      out = out;
+      stop = ran .stop;
+    }
+
+-- ---- what a field brings that was read
+
+-- so many words stand whole in the window from a first place on, and are 64 at the most
+pub record WordsIn (window : List ℕ) (first count : ℕ) : Type 0 where
+  pub few : count ≤ 64
+  pub there : 2 * count ≤ bytesLeft window first
+
+-- where the field is a host write, its words do
+pub record WordsThere (window : List ℕ) (field : Field) : Type 0 where
+  pub words : (address first count : ℕ) → field ≡ HostWrite address first count
+      → WordsIn window first count
+
+-- the field was read at a place, and the next begins further on
+pub record WasRead (window : List ℕ) (field : Field) (at next : ℕ) : Type 0 where
+  pub words : WordsThere window field
+  pub further : at ≤ next
