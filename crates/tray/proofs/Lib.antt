@@ -3,7 +3,9 @@
 --     LineLaws      the line of an answer, and the last line
 --     TurnLaws      one field of a window, as the code takes it
 --     LoopLaws      field after field
+--     KeepLaws      what is left of a window moves to its front
 pub mod HappenLaws
 pub mod LineLaws
 pub mod TurnLaws
 pub mod LoopLaws
+pub mod KeepLaws

@@ -4,8 +4,9 @@
 use mathlib.Core.Bool.{Bool, true, false, cond, not, _&&_, _||_}
 use mathlib.Core.List.{List}
 use Prim.Native.Nat.{ℕ, zero, suc, _-_, _^_}
-use lib.Dec.{eqb, ltb}
+use lib.Dec.{eqb, leb, ltb}
 use lib.ListN.{length}
+use lib.Seq.{sets, slice}
 use Rattle.recording.specs.declared.Field.{Field}
 use Rattle.recording.specs.declared.Reading.{Reading}
 use Rattle.recording.specs.declared.Reading.the-variants.{Taken, End, Refused}
@@ -92,3 +93,13 @@ unfoldable pub windowRun : Tray → List ℕ → Bool → List ℕ → Passed
 windowRun old window last out =
     turns mostTurns window last
     (record { tray = old; at = 0; put = 0; out = out; stop = Going })
+
+-- ---- what is left of a window
+
+-- its bytes from a place to an end move to the front, and so many they are; an end past the window
+-- names none
+unfoldable pub keptRest : List ℕ → ℕ → ℕ → Put
+keptRest window at end =
+    cond (leb end (length window))
+    (put (end - at) (sets window 0 (slice at end window)))
+    (put 0 window)

@@ -12,7 +12,15 @@ ghost use Rattle.lines.specs.Written.{put, lineWritten};
 ghost use Rattle.recording.specs.Bytes.{wordsAt};
 ghost use Rattle.tray.specs.Happening.{happeningOf, happened};
 ghost use Rattle.tray.specs.Run.{trayAtStart, replyLine, answerLine, lastLine};
-ghost use Rattle.tray.specs.Window.{isGoing, stopped, stoppedAt, takes, turn, windowRun};
+ghost use Rattle.tray.specs.Window.{
+  isGoing,
+  stopped,
+  stoppedAt,
+  takes,
+  turn,
+  windowRun,
+  keptRest,
+};
 ghost use Rattle.tray.specs.Held.{
   cardOf,
   trayOf,
@@ -407,4 +415,25 @@ pub fn run_window(
         turns -= 1;
     }
     ran
+}
+
+// The bytes of the window from a place to an end move to its front, where the next piece is read
+// behind them. Answers how many they are.
+pub fn keep_rest(window: &mut [u8], at: usize, end: usize) -> usize
+    ensures { λ count. ⌜ put count (now (window .exit))
+        ≡ keptRest (now (window .entry)) at end ⌝ }
+{
+    if window.len() < end {
+        return 0;
+    }
+    if end <= at {
+        return 0;
+    }
+    let count = end - at;
+    let mut byte: usize = 0;
+    while byte < count {
+        window[byte] = window[at + byte];
+        byte += 1;
+    }
+    count
 }
