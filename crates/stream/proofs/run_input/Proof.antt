@@ -1,0 +1,68 @@
+-- `stream::run_input` meets its contract. Assumes nothing.
+use mathlib.Core.Path.{_≡_}
+use lib.ListN.{length}
+use borrow.Author.Needs.{needs}
+use Rattle.stream.proofs.run_input.Statement.{statement}
+use Rattle.stream.proofs.run_input.Tie as tie
+
+abbrev Inv-loop : tie.InvT-loop
+Inv-loop places₀ ram₀ window₀ out₀ state₀ turns₀ places ram window out state turns =
+    (length ram ≡ length ram₀)
+
+abbrev μ-loop : tie.MeasureT-loop
+μ-loop places₀ ram₀ window₀ out₀ state₀ turns₀ places ram window out state turns = turns
+
+large-buffer-requires : tie.Need-large-buffer-requires Inv-loop μ-loop
+large-buffer-requires c κs = search needs
+
+slice-aggregate-window : tie.Need-slice-aggregate-window Inv-loop μ-loop
+slice-aggregate-window c = search needs
+
+large-buffer-requires-2 : tie.Need-large-buffer-requires-2 Inv-loop μ-loop
+large-buffer-requires-2 c κs = search needs
+
+slice-aggregate-out : tie.Need-slice-aggregate-out Inv-loop μ-loop
+slice-aggregate-out c = search needs
+
+at-start-requires : tie.Need-at-start-requires Inv-loop μ-loop
+at-start-requires c κs = search needs
+
+loop-holds : tie.Need-loop-holds Inv-loop μ-loop
+loop-holds c = search needs
+
+turn-requires : tie.Need-turn-requires Inv-loop μ-loop
+turn-requires c κs = search needs
+
+sub-turns : tie.Need-sub-turns Inv-loop μ-loop
+sub-turns c = search needs
+
+loop-less : tie.Need-loop-less Inv-loop μ-loop
+loop-less c = search needs
+
+loop-again : tie.Need-loop-again Inv-loop μ-loop
+loop-again c = search needs
+
+same-length : tie.Need-same-length Inv-loop μ-loop
+same-length c = search needs
+
+returns : tie.Need-returns Inv-loop μ-loop
+returns c = search needs
+
+pub run-input-spec : {M : Type 1} → statement M
+run-input-spec =
+    tie.close
+    (tie.spec
+    Inv-loop
+    μ-loop
+    large-buffer-requires
+    slice-aggregate-window
+    large-buffer-requires-2
+    slice-aggregate-out
+    at-start-requires
+    loop-holds
+    turn-requires
+    sub-turns
+    loop-less
+    loop-again
+    same-length
+    returns)
