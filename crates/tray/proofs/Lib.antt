@@ -4,8 +4,16 @@
 --     TurnLaws      one field of a window, as the code takes it
 --     LoopLaws      field after field
 --     KeepLaws      what is left of a window moves to its front
+--     PrintedLaws   what is printed goes field by field
+--     WindowLaws    a call prints its part, whatever comes behind
+--     EndLaws       a call comes to an end
+--     PieceLaws     any pieces print what the whole prints
 pub mod HappenLaws
 pub mod LineLaws
 pub mod TurnLaws
 pub mod LoopLaws
 pub mod KeepLaws
+pub mod PrintedLaws
+pub mod WindowLaws
+pub mod EndLaws
+pub mod PieceLaws

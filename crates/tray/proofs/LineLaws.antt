@@ -36,7 +36,7 @@ nothing-written out at =
 -- ---- the line of a reply
 
 -- no reply sends more than 32 words
-few-sent : (ram : List ℕ) (block count : ℕ) → length (sentPart ram block count) ≤ mostWords
+pub few-sent : (ram : List ℕ) (block count : ℕ) → length (sentPart ram block count) ≤ mostWords
 unfolding sentPart
 few-sent ram block count = go (eqb number 0) refl where
   number : ℕ

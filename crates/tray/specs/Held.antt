@@ -1,11 +1,12 @@
 -- What the code holds of a run, as the definitions have it. Definitions only. Assumes nothing.
 use mathlib.Core.Path.{_≡_}
+use mathlib.Core.Bool.{false}
 use mathlib.Core.List.{List}
 use Prim.Native.Nat.{ℕ, _*_, _≤_}
-use Rattle.queue.specs.Queue.{queue}
+use Rattle.queue.specs.Queue.{queue, ringOf}
 use Rattle.terminal.specs.declared.state.Held.{Held}
 use Rattle.terminal.specs.declared.state.Answer.{Answer}
-use Rattle.terminal.specs.State.{Card, card}
+use Rattle.terminal.specs.State.{Card, card, coreAtSetup}
 use Rattle.terminal.specs.Event.{Shown, shown}
 use Rattle.recording.specs.declared.Field.{Field}
 use Rattle.recording.specs.declared.Field.the-variants.{HostWrite}
@@ -26,6 +27,16 @@ trayOf run places ram =
       card = cardOf (run .held) places ram;
       fields = run .fields;
       offset = run .offset;
+    }
+
+-- before the first field, over any memory: no station has number 31
+unfoldable pub runAtStart : Run
+runAtStart =
+    record {
+      held = record { core = coreAtSetup 31 0 0; ring = ringOf 0 0 false };
+      begun = false;
+      fields = 0;
+      offset = 0;
     }
 
 -- so is the buffer

@@ -33,8 +33,8 @@ pub data Streamed (start : Tray) : Bool → List ℕ → List ℕ → Tray → L
       → Streamed start ended input text old window
       → windowRun old window ended out .stop ≢ Over
       → Streamed start ended input (text ++ linesOf (windowRun old window ended out))
-        (windowRun old window ended out .tray)
-        (drop (windowRun old window ended out .at) window)
+      (windowRun old window ended out .tray)
+      (drop (windowRun old window ended out .at) window)
 
 -- and then a call ends the run
 pub record Finished (start : Tray) (input text : List ℕ) (new : Tray) : Type 0 where

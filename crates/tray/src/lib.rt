@@ -2,16 +2,14 @@
 // recording and a buffer for the lines; `run_window` takes every whole field of the window, and
 // `keep_rest` moves what is left of it to the front, where the next piece is read behind it.
 ghost use mathlib.Core.Path.{_≡_};
-ghost use lib.ListN.{replicate};
 ghost use lib.Seq.{sets};
-ghost use Rattle.card.specs.Memory.{cardWords};
-ghost use Rattle.queue.specs.Queue.{queue, queuePlaces, emptyQueue};
+ghost use Rattle.queue.specs.Queue.{queue, emptyQueue};
 ghost use Rattle.terminal.specs.declared.state.Reply.the-variants.{Silent};
 ghost use Rattle.terminal.specs.Event.{shown, replied};
 ghost use Rattle.lines.specs.Written.{put, lineWritten};
 ghost use Rattle.recording.specs.Bytes.{wordsAt};
 ghost use Rattle.tray.specs.Happening.{happeningOf, happened};
-ghost use Rattle.tray.specs.Run.{trayAtStart, replyLine, answerLine, lastLine};
+ghost use Rattle.tray.specs.Run.{replyLine, answerLine, lastLine};
 ghost use Rattle.tray.specs.Window.{
   isGoing,
   stopped,
@@ -24,6 +22,7 @@ ghost use Rattle.tray.specs.Window.{
 ghost use Rattle.tray.specs.Held.{
   cardOf,
   trayOf,
+  runAtStart,
   passedOf,
   WordsIn,
   WordsThere,
@@ -81,10 +80,9 @@ struct Happened {
 }
 
 impl Run {
-    // Before the first field, over places and RAM that are zero. No station has number 31.
+    // Before the first field. No station has number 31.
     pub fn at_start() -> Run
-        ensures { λ run. ⌜ trayOf run (replicate queuePlaces 0) (replicate cardWords 0)
-            ≡ trayAtStart ⌝ }
+        ensures { λ run. ⌜ run ≡ runAtStart ⌝ }
     {
         let core = Core::at_setup(31, 0, 0);
         let ring = Ring {

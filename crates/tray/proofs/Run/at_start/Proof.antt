@@ -1,6 +1,6 @@
 -- `tray::Run::at_start` meets its contract, by computation. Assumes nothing.
 use borrow.Author.Needs.{needs}
-use Rattle.tray.specs.Run.{trayAtStart}
+use Rattle.tray.specs.Held.{runAtStart}
 use Rattle.tray.proofs.Run.at_start.Statement.{statement}
 use Rattle.tray.proofs.Run.at_start.Tie as tie
 
@@ -8,7 +8,7 @@ at-setup-requires : tie.Need-at-setup-requires
 at-setup-requires c κs = search needs
 
 returns : tie.Need-returns
-unfolding trayAtStart
+unfolding runAtStart
 returns c = cc
 
 pub at-start-spec : {M : Type 1} → statement M

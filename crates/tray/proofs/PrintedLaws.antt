@@ -1,0 +1,115 @@
+-- The laws of `specs/Run.antt`: what is printed goes field by field, however many turns are
+-- allowed, and no line is longer than the room that it is given. Assumes nothing.
+use mathlib.Core.Path.{_≡_, refl, sym, ap, _∙_}
+use mathlib.Core.Bool.{Bool, true, false, cond}
+use mathlib.Core.List.{List, [], _∷_, _++_}
+use Prim.Native.Nat.{ℕ, zero, suc, _+_, _-_, _≤_, _<_}
+use native.Mathlib.Omega.{arith}
+use lib.Dec.{eqb}
+use lib.ListN.{length, drop, length-drop}
+use Rattle.card.specs.Sent.{sentPart}
+use Rattle.terminal.specs.declared.state.Answer.{Answer}
+use Rattle.terminal.specs.declared.state.Answer.the-variants.{Replied, QueueWord}
+use Rattle.terminal.specs.declared.state.Reply.the-variants.{Silent, Status, Words, Last}
+use Rattle.recording.specs.declared.Field.{Field}
+use Rattle.recording.specs.declared.Reading.{Reading}
+use Rattle.recording.specs.declared.Reading.the-variants.{Taken, End, Refused}
+use Rattle.recording.specs.Reading.{readAt}
+use Rattle.recording.proofs.TakenLaws.{taken-within}
+use Rattle.lines.specs.Lines.{endLine, refusalLine}
+use Rattle.lines.specs.Written.{lineRoom}
+use Rattle.lines.proofs.Lengths.{
+  length-status-line,
+  length-queue-line,
+  length-end-line,
+  length-refusal-line,
+}
+use Rattle.tray.specs.Happening.{happeningOf, happened}
+use Rattle.tray.specs.Run.{
+  Tray,
+  answerLine,
+  lastLine,
+  taking,
+  takingLine,
+  printedOf,
+  printedBy,
+  printedFrom,
+}
+use Rattle.tray.proofs.LineLaws.{few-sent}
+
+-- ---- no line is longer than its room
+
+answer-fits : (ram : List ℕ) (answer : Answer) → length (answerLine ram answer) ≤ lineRoom
+answer-fits ram (Replied Silent) = omega arith
+answer-fits ram (Replied (Status status)) = length-status-line status [] (omega arith)
+answer-fits ram (Replied (Words status block count)) =
+    length-status-line status (sentPart ram block count) (few-sent ram block count)
+answer-fits ram (Replied (Last status command)) =
+    length-status-line status (command ∷ []) (omega arith)
+answer-fits ram (QueueWord word) = length-queue-line word
+
+pub taking-line-fits : (bytes : List ℕ) (field : Field) (old : Tray)
+    → length (takingLine bytes field old) ≤ lineRoom
+unfolding takingLine
+taking-line-fits bytes field old =
+    let new = happened (happeningOf bytes field) (old .card) in
+    answer-fits (new .card .ram) (new .answer)
+
+pub last-line-fits : (number fields offset : ℕ) → length (lastLine number fields offset) ≤ lineRoom
+unfolding lastLine
+last-line-fits number fields offset = go (eqb number 0) where
+  go : (test : Bool)
+      → length (cond test (endLine fields) (refusalLine number offset)) ≤ lineRoom
+  go true = length-end-line fields
+  go false = length-refusal-line number offset
+
+-- ---- field by field
+
+-- a field that is taken leaves fewer bytes
+fewer : (bytes : List ℕ) (begun : Bool) (field : Field) (next : ℕ)
+    → readAt bytes 0 begun ≡ Taken field next → length (drop next bytes) < length bytes
+fewer bytes begun field next is =
+    omega (
+      arith,
+      length-drop next bytes,
+      taken-within bytes 0 begun is .moves-on,
+      taken-within bytes 0 begun is .ends-inside,
+    )
+
+-- two ways to print what is left that agree on fewer bytes agree on these
+same-rest : (one other : Tray → List ℕ → List ℕ) (old : Tray) (bytes : List ℕ) (reading : Reading)
+    → ((new : Tray) (rest : List ℕ) → length rest < length bytes → one new rest ≡ other new rest)
+    → readAt bytes 0 (old .begun) ≡ reading
+    → printedOf reading one old bytes ≡ printedOf reading other old bytes
+unfolding printedOf
+same-rest one other old bytes (Taken field next) agree is =
+    ap (λ (rest : List ℕ). takingLine bytes field old ++ rest)
+    (agree (taking bytes field next old) (drop next bytes)
+    (fewer bytes (old .begun) field next is))
+same-rest one other old bytes End agree is = refl
+same-rest one other old bytes (Refused number place) agree is = refl
+
+-- more turns than there are bytes print the same
+enough : (most more : ℕ) (old : Tray) (bytes : List ℕ)
+    → length bytes < most → length bytes < more
+    → printedBy most old bytes ≡ printedBy more old bytes
+unfolding printedBy
+enough zero more old bytes short long = absurd (omega (arith, short))
+enough (suc most) zero old bytes short long = absurd (omega (arith, long))
+enough (suc most) (suc more) old bytes short long =
+    same-rest (printedBy most) (printedBy more) old bytes (readAt bytes 0 (old .begun))
+    (λ new rest fewer-bytes.
+    enough most more new rest (omega (arith, fewer-bytes)) (omega (arith, fewer-bytes)))
+    refl
+
+-- what is printed, by the first reading
+pub printed-by-reading : (old : Tray) (bytes : List ℕ) (reading : Reading)
+    → readAt bytes 0 (old .begun) ≡ reading
+    → printedFrom old bytes ≡ printedOf reading printedFrom old bytes
+unfolding printedFrom printedBy
+printed-by-reading old bytes reading is =
+    ap (λ (any : Reading). printedOf any (printedBy (length bytes)) old bytes) is
+    ∙ same-rest (printedBy (length bytes)) printedFrom old bytes reading
+    (λ new rest fewer-bytes.
+    enough (length bytes) (suc (length rest)) new rest fewer-bytes (omega arith))
+    is

@@ -1,0 +1,306 @@
+-- A call over a window prints what the run prints of its bytes, whatever bytes come behind, and
+-- leaves the rest to be printed. Assumes nothing.
+use mathlib.Core.Path.{_≡_, refl, sym, ap, _∙_}
+use mathlib.Core.Logic.{_≢_}
+use mathlib.Core.Bool.{Bool, true, false, cond, not, _&&_}
+use mathlib.Core.List.{List, [], _++_, append-assoc, append-nil}
+use Prim.Native.Nat.{ℕ, zero, suc, _+_, _-_, _≤_}
+use native.Mathlib.Nat.{le-refl}
+use native.Mathlib.Omega.{arith}
+use lib.Dec.{eqb, ltb}
+use lib.ListN.{length, take, drop}
+use lib.Seq.{drop-append-le, drop-drop}
+use borrow.Author.Tests.{ltb-false}
+use Rattle.terminal.specs.Event.{hostWrite}
+use Rattle.recording.specs.declared.Field.{Field}
+use Rattle.recording.specs.declared.Field.the-variants.{
+  Setup,
+  Word,
+  Silence,
+  QueueRead,
+  HostWrite,
+  Table,
+  Flags,
+}
+use Rattle.recording.specs.declared.Reading.{Reading}
+use Rattle.recording.specs.declared.Reading.the-variants.{Taken, End, Refused}
+use Rattle.recording.specs.Bytes.{wordsAt}
+use Rattle.recording.specs.Pieces.{shiftedField, shifted}
+use Rattle.recording.specs.Reading.{readAt}
+use Rattle.recording.proofs.TakenLaws.{taken-within}
+use Rattle.recording.proofs.TakenWords.{more-bytes-same-words}
+use Rattle.recording.proofs.MoreBytes.{more-bytes-same-field, more-bytes-same-refusal}
+use Rattle.recording.proofs.Shifted.{dropped-words, dropped-bytes}
+use Rattle.lines.specs.Written.{Put, lineRoom, lineWritten}
+use Rattle.lines.proofs.WrittenLaws.{take-written, length-written, next-written}
+use Rattle.tray.specs.declared.Stop.{Stop}
+use Rattle.tray.specs.declared.Stop.the-variants.{Going, Hungry, Full, Over}
+use Rattle.tray.specs.Happening.{Happening, event, happeningOf}
+use Rattle.tray.specs.Run.{
+  Tray,
+  lastLine,
+  taking,
+  takingLine,
+  printedOf,
+  printedFrom,
+}
+use Rattle.tray.specs.Window.{
+  Passed,
+  mayGoOn,
+  stoppedAt,
+  stopsAt,
+  takes,
+  passing,
+  turn,
+  isGoing,
+  turns,
+  mostTurns,
+  windowRun,
+}
+use Rattle.tray.specs.Pieces.{linesOf}
+use Rattle.tray.proofs.PrintedLaws.{
+  taking-line-fits,
+  last-line-fits,
+  printed-by-reading,
+}
+
+-- a field tells the same, read at a place of the window or at the front of what is left
+happening-same : (window behind : List ℕ) (at : ℕ) (begun : Bool) (field : Field) (next : ℕ)
+    → readAt (drop at window) 0 begun ≡ Taken field next
+    → happeningOf window (shiftedField at field) ≡ happeningOf (drop at window ++ behind) field
+unfolding happeningOf
+happening-same window behind at begun (Setup station table flags) next is = refl
+happening-same window behind at begun (Word marks value time) next is = refl
+happening-same window behind at begun (Silence line time) next is = refl
+happening-same window behind at begun QueueRead next is = refl
+happening-same window behind at begun (HostWrite address first count) next is =
+    ap (λ (words : List ℕ). event (hostWrite address words))
+    (dropped-words at window first count
+    ∙ sym (more-bytes-same-words (drop at window) 0 begun is behind))
+happening-same window behind at begun (Table table) next is = refl
+happening-same window behind at begun (Flags flags) next is = refl
+
+-- what a run that is not over still prints
+abbrev ahead : Stop → List ℕ → List ℕ
+ahead Going text = text
+ahead Hungry text = text
+ahead Full text = text
+ahead Over text = []
+
+module _ (window behind : List ℕ) where
+  -- what a call has printed, and what is still to come of its window and of the bytes behind
+  abbrev total : Passed → List ℕ
+  total now′ =
+      take (now′ .put) (now′ .out)
+      ++ ahead (now′ .stop) (printedFrom (now′ .tray) (drop (now′ .at) window ++ behind))
+
+  module _ (last : Bool) (none-behind : last ≡ true → behind ≡ []) where
+    module _ (old : Tray) (at place : ℕ) (out : List ℕ) (inside : place ≤ length out) where
+      abbrev going : Passed
+      going = record { tray = old; at = at; put = place; out = out; stop = Going }
+
+      abbrev left : List ℕ
+      left = drop at window ++ behind
+
+      -- a line is printed behind the others
+      line-printed : (line : List ℕ) → lineRoom ≤ length out - place → length line ≤ lineRoom
+          → take (lineWritten out place line .next) (lineWritten out place line .bytes)
+          ≡ take place out ++ line
+      line-printed line room fits = take-written lineRoom out place line inside room fits
+
+      -- a field is taken
+      field-same : (field : Field) (next : ℕ) → lineRoom ≤ length out - place
+          → readAt (drop at window) 0 (old .begun) ≡ Taken field next
+          → total (takes window (shiftedField at field) (at + next) going) ≡ total going
+      unfolding takes taking takingLine printedOf
+      field-same field next room is =
+          let told : happeningOf window (shiftedField at field) ≡ happeningOf left field =
+          happening-same window behind at (old .begun) field next is in
+          let size : (at + next) - at ≡ next = omega arith in
+          let rest : drop (at + next) window ++ behind ≡ drop next left =
+          ap (λ (bytes : List ℕ). bytes ++ behind) (sym (drop-drop next at window))
+          ∙ sym (drop-append-le next (drop at window) behind
+          (taken-within (drop at window) 0 (old .begun) is .ends-inside)) in
+          let first : printedFrom old left
+          ≡ takingLine left field old ++ printedFrom (taking left field next old) (drop next left)
+          =
+          printed-by-reading old left (Taken field next)
+          (more-bytes-same-field (drop at window) behind 0 (old .begun) is) in
+          rw (told, size, rest)
+          (ap (λ (text : List ℕ). text ++ printedFrom (taking left field next old) (drop next left))
+          (line-printed (takingLine left field old) room (taking-line-fits left field old))
+          ∙ append-assoc (take place out) (takingLine left field old)
+          (printedFrom (taking left field next old) (drop next left))
+          ∙ ap (λ (text : List ℕ). take place out ++ text) (sym first))
+
+      -- no field is taken: the call waits, or prints the last line
+      stop-same : (number : ℕ) → lineRoom ≤ length out - place
+          → (not last && mayGoOn number ≡ false
+          → printedFrom old left ≡ lastLine number (old .fields) (old .offset))
+          → total (stopsAt number last going) ≡ total going
+      unfolding stoppedAt
+      stop-same number room ends = go (not last && mayGoOn number) refl where
+        text : List ℕ
+        text = lastLine number (old .fields) (old .offset)
+
+        go : (waits : Bool) → not last && mayGoOn number ≡ waits
+            → total (stopsAt number last going) ≡ total going
+        go true is = rw is
+        go false is =
+            rw is
+            (append-nil (take (lineWritten out place text .next)
+            (lineWritten out place text .bytes))
+            ∙ line-printed text room (last-line-fits number (old .fields) (old .offset))
+            ∙ ap (λ (more : List ℕ). take place out ++ more) (sym (ends is)))
+
+      -- what is left is read so, if no bytes come behind or the reading is settled
+      by-last : (reading : Reading) → last ≡ true → readAt (drop at window) 0 (old .begun) ≡ reading
+          → readAt left 0 (old .begun) ≡ reading
+      by-last reading is-last is =
+          ap (λ (bytes : List ℕ). readAt (drop at window ++ bytes) 0 (old .begun))
+          (none-behind is-last)
+          ∙ ap (λ (bytes : List ℕ). readAt bytes 0 (old .begun)) (append-nil (drop at window))
+          ∙ is
+
+      settled-end : not last && mayGoOn 0 ≡ false → last ≡ true
+      settled-end is = go last is where
+        go : (any : Bool) → not any && true ≡ false → any ≡ true
+        go true is′ = refl
+        go false is′ = sym is′
+
+      -- a refusal that ends the run is one of all that is left
+      refusal-read : (number named : ℕ)
+          → readAt (drop at window) 0 (old .begun) ≡ Refused number named
+          → not last && mayGoOn number ≡ false
+          → readAt left 0 (old .begun) ≡ Refused number named
+      refusal-read number named is ends = go last refl where
+        go : (any : Bool) → last ≡ any → readAt left 0 (old .begun) ≡ Refused number named
+        go true is-last = by-last (Refused number named) is-last is
+        go false is-last =
+            more-bytes-same-refusal (drop at window) behind 0 (old .begun) is
+            (λ five. clash (rw (is-last, five) at ends))
+          where
+            clash : true ≡ false → ⊥
+            clash differ = let z : _≡_ {A = ℕ} 0 1 = cc in omega arith
+
+      passing-same : (reading : Reading) → lineRoom ≤ length out - place
+          → readAt (drop at window) 0 (old .begun) ≡ reading
+          → total (passing (shifted at reading) window last going) ≡ total going
+      unfolding passing printedOf
+      passing-same (Taken field next) room is = field-same field next room is
+      passing-same End room is =
+          stop-same 0 room
+          (λ ends. printed-by-reading old left End (by-last End (settled-end ends) is))
+      passing-same (Refused number named) room is =
+          stop-same number room
+          (λ ends.
+          printed-by-reading old left (Refused number named) (refusal-read number named is ends))
+
+      turn-same : total (turn window last going) ≡ total going
+      unfolding turn
+      turn-same = go (ltb (length out - place) lineRoom) refl where
+        here : readAt window at (old .begun)
+            ≡ shifted at (readAt (drop at window) 0 (old .begun))
+        here =
+            ap (λ (from : ℕ). readAt window from (old .begun)) (omega arith)
+            ∙ dropped-bytes at window 0 (old .begun)
+
+        go : (full : Bool) → ltb (length out - place) lineRoom ≡ full
+            → total (turn window last going) ≡ total going
+        go true is = rw is
+        go false is =
+            rw (is, here)
+            (passing-same (readAt (drop at window) 0 (old .begun))
+            (ltb-false (length out - place) lineRoom is) refl)
+
+      -- the next line goes into the buffer
+      written-inside : (line : List ℕ) → length line ≤ lineRoom
+          → lineWritten out place line .next ≤ length (lineWritten out place line .bytes)
+      written-inside line fits =
+          omega (
+            arith,
+            inside,
+            next-written lineRoom out place line fits,
+            length-written lineRoom out place line,
+          )
+
+      stop-inside : (number : ℕ)
+          → stopsAt number last going .put ≤ length (stopsAt number last going .out)
+      unfolding stoppedAt
+      stop-inside number = go (not last && mayGoOn number) refl where
+        go : (waits : Bool) → not last && mayGoOn number ≡ waits
+            → stopsAt number last going .put ≤ length (stopsAt number last going .out)
+        go true is = rw is inside
+        go false is =
+            rw is
+            (written-inside (lastLine number (old .fields) (old .offset))
+            (last-line-fits number (old .fields) (old .offset)))
+
+      passing-inside : (reading : Reading)
+          → passing reading window last going .put
+          ≤ length (passing reading window last going .out)
+      unfolding passing takes
+      passing-inside (Taken field next) =
+          written-inside (takingLine window field old) (taking-line-fits window field old)
+      passing-inside End = stop-inside 0
+      passing-inside (Refused number named) = stop-inside number
+
+      pub turn-inside : turn window last going .put ≤ length (turn window last going .out)
+      unfolding turn
+      turn-inside = go (ltb (length out - place) lineRoom) refl where
+        go : (full : Bool) → ltb (length out - place) lineRoom ≡ full
+            → turn window last going .put ≤ length (turn window last going .out)
+        go true is = rw is inside
+        go false is = rw is (passing-inside (readAt window at (old .begun)))
+
+    -- ---- turn after turn
+
+    turns-same : (most : ℕ) (old : Tray) (at place : ℕ) (out : List ℕ) (stop : Stop)
+        → place ≤ length out
+        → total (turns most window last
+        (record { tray = old; at = at; put = place; out = out; stop = stop }))
+        ≡ total (record { tray = old; at = at; put = place; out = out; stop = stop })
+    unfolding turns
+    turns-same zero old at place out stop inside = refl
+    turns-same (suc most) old at place out Going inside =
+        let new : Passed = turn window last (going old at place out inside) in
+        turns-same most (new .tray) (new .at) (new .put) (new .out) (new .stop)
+        (turn-inside old at place out inside)
+        ∙ turn-same old at place out inside
+    turns-same (suc most) old at place out Hungry inside = refl
+    turns-same (suc most) old at place out Full inside = refl
+    turns-same (suc most) old at place out Over inside = refl
+
+    -- ---- a call
+
+    call-same : (old : Tray) (out : List ℕ)
+        → total (windowRun old window last out) ≡ printedFrom old (window ++ behind)
+    unfolding windowRun
+    call-same old out = turns-same mostTurns old 0 0 out Going (omega arith)
+
+    -- a call that is not over prints its lines, and the rest is still to be printed
+    pub call-goes-on : (old : Tray) (out : List ℕ) → windowRun old window last out .stop ≢ Over
+        → printedFrom old (window ++ behind)
+        ≡ linesOf (windowRun old window last out)
+        ++ printedFrom (windowRun old window last out .tray)
+        (drop (windowRun old window last out .at) window ++ behind)
+    call-goes-on old out other =
+        sym (call-same old out)
+        ∙ ap (λ (text : List ℕ). linesOf (windowRun old window last out) ++ text)
+        (not-over (windowRun old window last out .stop) other)
+      where
+        not-over : (stop : Stop) {text : List ℕ} → stop ≢ Over → ahead stop text ≡ text
+        not-over Going other′ = refl
+        not-over Hungry other′ = refl
+        not-over Full other′ = refl
+        not-over Over other′ = absurd (other′ refl)
+
+    -- a call that is over has printed all there is
+    pub call-is-over : (old : Tray) (out : List ℕ) → windowRun old window last out .stop ≡ Over
+        → printedFrom old (window ++ behind) ≡ linesOf (windowRun old window last out)
+    call-is-over old out is =
+        sym (call-same old out)
+        ∙ ap (λ (stop : Stop). linesOf (windowRun old window last out)
+        ++ ahead stop (printedFrom (windowRun old window last out .tray)
+        (drop (windowRun old window last out .at) window ++ behind))) is
+        ∙ append-nil (linesOf (windowRun old window last out))
