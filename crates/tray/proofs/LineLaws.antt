@@ -18,7 +18,16 @@ use Rattle.terminal.specs.declared.state.Answer.the-variants.{Replied, QueueWor
 use Rattle.terminal.specs.declared.state.Reply.{Reply}
 use Rattle.terminal.specs.declared.state.Reply.the-variants.{Silent, Status, Words, Last}
 use Rattle.lines.specs.Lines.{statusLine, queueLine, endLine, refusalLine}
-use Rattle.lines.specs.Written.{Put, put, stored, written, lineRoom, mostWords, lineWritten, statusWritten}
+use Rattle.lines.specs.Written.{
+  Put,
+  put,
+  stored,
+  written,
+  lineRoom,
+  mostWords,
+  lineWritten,
+  statusWritten,
+}
 use Rattle.lines.proofs.WrittenLaws.{in-room, out-of-room, few-words}
 use Rattle.tray.specs.Run.{replyLine, answerLine, lastLine}
 

@@ -1,37 +1,38 @@
--- `stream::run_input` meets its contract. Assumes nothing.
-use mathlib.Core.Path.{_≡_}
+-- `stream::run_input` meets its contract, by the laws of its loop. Assumes nothing.
 use lib.ListN.{length}
 use borrow.Author.Needs.{needs}
+use Rattle.tray.specs.Held.{trayOf, runAtStart}
+use Rattle.stream.proofs.LoopLaws.{Pumping, pumping}
 use Rattle.stream.proofs.run_input.Statement.{statement}
 use Rattle.stream.proofs.run_input.Tie as tie
 
 abbrev Inv-loop : tie.InvT-loop
-Inv-loop places₀ ram₀ window₀ out₀ state₀ turns₀ places ram window out state turns =
-    (length ram ≡ length ram₀)
+Inv-loop places₀ ram₀ window₀ out₀ pump₀ turns₀ places ram window out pump turns =
+    Pumping (trayOf runAtStart places₀ ram₀) pump places ram window (length ram₀)
 
 abbrev μ-loop : tie.MeasureT-loop
-μ-loop places₀ ram₀ window₀ out₀ state₀ turns₀ places ram window out state turns = turns
+μ-loop places₀ ram₀ window₀ out₀ pump₀ turns₀ places ram window out pump turns = turns
 
 large-buffer-requires : tie.Need-large-buffer-requires Inv-loop μ-loop
-large-buffer-requires c κs = search needs
+large-buffer-requires c κs = search (needs, pumping) depth 9
 
 slice-aggregate-window : tie.Need-slice-aggregate-window Inv-loop μ-loop
-slice-aggregate-window c = search needs
+slice-aggregate-window c = search (needs, pumping) depth 9
 
 large-buffer-requires-2 : tie.Need-large-buffer-requires-2 Inv-loop μ-loop
-large-buffer-requires-2 c κs = search needs
+large-buffer-requires-2 c κs = search (needs, pumping) depth 9
 
 slice-aggregate-out : tie.Need-slice-aggregate-out Inv-loop μ-loop
-slice-aggregate-out c = search needs
+slice-aggregate-out c = search (needs, pumping) depth 9
 
 at-start-requires : tie.Need-at-start-requires Inv-loop μ-loop
-at-start-requires c κs = search needs
+at-start-requires c κs = search (needs, pumping) depth 9
 
 loop-holds : tie.Need-loop-holds Inv-loop μ-loop
-loop-holds c = search needs
+loop-holds c = search (needs, pumping) depth 9
 
 turn-requires : tie.Need-turn-requires Inv-loop μ-loop
-turn-requires c κs = search needs
+turn-requires c κs = search (needs, pumping) depth 9
 
 sub-turns : tie.Need-sub-turns Inv-loop μ-loop
 sub-turns c = search needs
@@ -40,13 +41,13 @@ loop-less : tie.Need-loop-less Inv-loop μ-loop
 loop-less c = search needs
 
 loop-again : tie.Need-loop-again Inv-loop μ-loop
-loop-again c = search needs
+loop-again c = search (needs, pumping) depth 9
 
 same-length : tie.Need-same-length Inv-loop μ-loop
-same-length c = search needs
+same-length c = search (needs, pumping) depth 9
 
 returns : tie.Need-returns Inv-loop μ-loop
-returns c = search needs
+returns c = search (needs, pumping) depth 9
 
 pub run-input-spec : {M : Type 1} → statement M
 run-input-spec =

@@ -1,0 +1,33 @@
+-- A piece is read behind the bytes that are there: the part that was lent to the read comes back
+-- in its place, and so many of its bytes count. Assumes nothing.
+use mathlib.Core.Path.{_≡_, sym, ap, _∙_}
+use mathlib.Core.List.{List, _++_}
+use Prim.Native.Nat.{ℕ, _+_, _≤_}
+use native.Mathlib.Omega.{arith}
+use lib.ListN.{length, take, drop, length-append}
+use lib.Seq.{length-take-le, take-append-le, take-append-add}
+use borrow.Rule.Slice.PartMut.{putMid}
+use Rattle.io.specs.Counts.{Counts}
+use Rattle.stream.specs.Came.{Grown}
+
+pub grown-by : (window part : List ℕ) (have count more : ℕ) → have ≤ length window
+    → Counts more part → Grown window have (putMid have count window part) (have + more)
+grown-by window part have count more inside counts =
+    let behind : List ℕ = drop count (drop have window) in
+    let front : length (take have window) ≡ have = length-take-le have window inside in
+    record {
+      piece = take more part;
+      behind =
+          ap (λ (size : ℕ). take (size + more) (take have window ++ (part ++ behind))) (sym front)
+          ∙ take-append-add (take have window) (part ++ behind) more
+          ∙ ap (λ (rest : List ℕ). take have window ++ rest)
+          (take-append-le more part behind (counts .0));
+      inside =
+          omega (
+            arith,
+            counts .0,
+            front,
+            length-append (take have window) (part ++ behind),
+            length-append part behind,
+          );
+    }

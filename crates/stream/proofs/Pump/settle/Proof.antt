@@ -1,0 +1,59 @@
+-- `stream::Pump::settle` meets its contract: a law for each way that a call stops. Assumes
+-- nothing.
+use borrow.Author.Needs.{needs}
+use Rattle.stream.proofs.CallLaws.{settling}
+use Rattle.stream.proofs.Pump.settle.Statement.{statement}
+use Rattle.stream.proofs.Pump.settle.Tie as tie
+
+enum-told : tie.Need-enum-told
+enum-told c = search needs
+
+enum-told-2 : tie.Need-enum-told-2
+enum-told-2 c = search needs
+
+enum-told-3 : tie.Need-enum-told-3
+enum-told-3 c = search needs
+
+finished-requires : tie.Need-finished-requires
+finished-requires c κs = search needs
+
+enum-told-4 : tie.Need-enum-told-4
+enum-told-4 c = search needs
+
+returns : tie.Need-returns
+returns c = search (needs, settling) depth 9
+
+read-on-requires : tie.Need-read-on-requires
+read-on-requires c κs = search needs
+
+returns-2 : tie.Need-returns-2
+returns-2 c = search (needs, settling) depth 9
+
+returns-3 : tie.Need-returns-3
+returns-3 c = search (needs, settling) depth 9
+
+returns-4 : tie.Need-returns-4
+returns-4 c = search (needs, settling) depth 9
+
+same-length : tie.Need-same-length
+same-length c = search needs
+
+returns-5 : tie.Need-returns-5
+returns-5 c = search (needs, settling) depth 9
+
+pub settle-spec : {M : Type 1} → statement M
+settle-spec =
+    tie.close
+    (tie.spec
+    enum-told
+    enum-told-2
+    enum-told-3
+    finished-requires
+    enum-told-4
+    returns
+    read-on-requires
+    returns-2
+    returns-3
+    returns-4
+    same-length
+    returns-5)

@@ -1,0 +1,32 @@
+-- `stream::Pump::turn` meets its contract: a call, and what it leaves to do. Assumes nothing.
+use borrow.Author.Needs.{needs}
+use Rattle.stream.proofs.LoopLaws.{turned-so, stepped-inside}
+use Rattle.stream.proofs.Pump.turn.Statement.{statement}
+use Rattle.stream.proofs.Pump.turn.Tie as tie
+
+call-requires : tie.Need-call-requires
+call-requires c κs = search needs
+
+settle-requires : tie.Need-settle-requires
+settle-requires c κs = search needs
+
+same-length : tie.Need-same-length
+same-length c = search needs
+
+same-length-2 : tie.Need-same-length-2
+same-length-2 c = search needs
+
+same-length-3 : tie.Need-same-length-3
+same-length-3 c = search needs
+
+returns : tie.Need-returns
+returns c =
+    let after-settle = c .before .before in
+    let after-call =
+    after-settle .before .before .before .before .before .before .before .before .before in
+    turned-so _ _ _ _ _ _ _ _ _ _ _ (after-call .call .ensures) (after-settle .settle .ensures)
+
+pub turn-spec : {M : Type 1} → statement M
+turn-spec =
+    tie.close
+    (tie.spec call-requires settle-requires same-length same-length-2 same-length-3 returns)

@@ -1,0 +1,2 @@
+-- A run of standard input.
+pub mod Came
