@@ -10,7 +10,8 @@ use borrow.Author.Tests.{eq-eqb, ne-eqb, not-true, not-false}
 use Rattle.card.specs.Memory.{cardWords}
 use Rattle.card.specs.Host as host
 use Rattle.queue.specs.declared.QueueRead.{QueueRead}
-use Rattle.queue.specs.Queue.{readOf}
+use Rattle.queue.specs.declared.Queue.{Queue}
+use Rattle.queue.specs.Queue.{readOf, fitQueue, emptyQueue}
 use Rattle.message.specs.declared.judge.WordAct.{WordAct}
 use Rattle.message.specs.declared.judge.WordAct.the-variants.{
   Ignore,
@@ -32,7 +33,16 @@ use Rattle.message.specs.declared.state.Word.{Word}
 use Rattle.terminal.specs.declared.state.Answer.{Answer}
 use Rattle.terminal.specs.declared.state.Reply.{Reply}
 use Rattle.terminal.specs.declared.state.Reply.the-variants.{Silent}
-use Rattle.terminal.specs.State.{Card, card, withTable, withFlags, withMessage}
+use Rattle.terminal.specs.State.{
+  Card,
+  card,
+  terminal,
+  withTable,
+  withFlags,
+  withMessage,
+  coreAtSetup,
+  terminalAtSetup,
+}
 use Rattle.message.specs.Message.{movedMessage}
 use Rattle.message.specs.Words.{ownCommand}
 use Rattle.message.specs.Words.{onWord}
@@ -61,8 +71,8 @@ use Rattle.terminal.specs.Machine.{
   tableMoveStep,
   flagsWriteStep,
 }
-use Rattle.message.specs.Fitness.{fitOpen, fitMessage}
-use Rattle.terminal.specs.Fitness.{fitTerminal}
+use Rattle.message.specs.Fitness.{fitMessage}
+use Rattle.terminal.specs.Fitness.{fitCore, fitTerminal}
 use Rattle.terminal.specs.Actions.{
   After,
   after,
@@ -74,6 +84,20 @@ use Rattle.terminal.specs.Actions.{
   readQueueAction,
   settled,
 }
+
+-- ---- what is judged
+
+pub fit-core-is : (core : Core) (fit : Bool) → fit ≡ fitMessage (core .message) (core .station)
+    → (leb (core .station) 30 && leb (core .table) 255 && leb (core .flags) 63 && fit)
+    ≡ fitCore core
+unfolding fitCore
+fit-core-is core fit is = rw is
+
+pub fit-terminal-is : (given : Terminal) (fit fit′ : Bool)
+    → fit ≡ fitCore (given .core) → fit′ ≡ fitQueue (given .queue)
+    → (fit && fit′) ≡ fitTerminal given
+unfolding fitTerminal
+fit-terminal-is given fit fit′ is is′ = rw (is, is′)
 
 -- ---- a word brings no reply
 
@@ -230,6 +254,12 @@ pub ruleset on-terminal = (
 )
 
 -- ---- setup
+
+pub setup-is : (station table flags : ℕ) (core : Core) (queue : Queue)
+    → core ≡ coreAtSetup station table flags → queue ≡ emptyQueue
+    → terminal core queue ≡ terminalAtSetup station table flags
+unfolding terminalAtSetup
+setup-is station table flags core queue is is′ = rw (is, is′)
 
 pub settled-with : (refusal : ℕ) (given same : Terminal)
     → given ≡ same → settled refusal given ≡ settled refusal same

@@ -1,19 +1,23 @@
 -- The laws of `specs/Closing.antt`, as the code puts a closing together. Assumes nothing.
 use mathlib.Core.Path.{_≡_}
-use mathlib.Core.Bool.{Bool, true, false, cond, not}
+use mathlib.Core.Bool.{Bool, true, false, cond, not, _&&_, _||_}
 use mathlib.Core.List.{List}
 use Prim.Native.Nat.{ℕ}
 use lib.Dec.{eqb}
 use borrow.Author.Tests.{eq-eqb, ne-eqb, not-true, not-false}
+use Rattle.bus.specs.Command.{isBroadcast}
 use Rattle.bus.specs.Status.{withError}
 use Rattle.card.specs.Memory.{withService, withLink}
+use Rattle.card.specs.StateWord.{stateWord}
 use Rattle.card.specs.Time.{ticksOf}
 use Rattle.queue.specs.declared.Queue.{Queue}
 use Rattle.message.specs.declared.format.Format.{Format}
 use Rattle.message.specs.declared.state.OpenMessage.{OpenMessage}
+use Rattle.terminal.specs.declared.state.Shut.{Shut}
 use Rattle.terminal.specs.declared.state.Core.{Core}
 use Rattle.terminal.specs.declared.state.Reply.the-variants.{Silent, Status, Words, Last}
-use Rattle.terminal.specs.State.{Card, card, withStatus}
+use Rattle.message.specs.Message.{hasSecond}
+use Rattle.terminal.specs.State.{Card, card, withStatus, withSwitches}
 use Rattle.terminal.specs.Closing.{
   unlessBusy,
   stateOf,
@@ -22,10 +26,32 @@ use Rattle.terminal.specs.Closing.{
   faulted,
   replies,
   replyOf,
+  switchedShut,
+  switchedInhibit,
   switched,
   endWords,
   ended,
 }
+
+-- ---- the state word
+
+pub state-is : (code words : ℕ) (message : OpenMessage) (broadcast second : Bool) (word : ℕ)
+    → broadcast ≡ isBroadcast (message .command)
+    → second ≡ hasSecond (message .second)
+    → word
+    ≡ stateWord (record {
+      line = message .line;
+      fault = not (eqb code 0);
+      broadcast = broadcast;
+      second = second;
+      busy = message .busy;
+      code = code;
+      words = words;
+    })
+    → word ≡ stateOf code words message
+unfolding stateOf
+state-is code words message broadcast second word is-broadcast is-second is-word =
+    rw (← is-broadcast, ← is-second) is-word
 
 -- ---- memory, on each way
 
@@ -52,6 +78,13 @@ module _ (format : Format) (state time : ℕ) (message : OpenMessage) (ram : Lis
 pub ruleset rams = (ram-without-block, ram-after-a-move, ram-with-link)
 
 -- ---- the reply
+
+pub replies-when : (core : Core) (message : OpenMessage) (broadcast shut : Bool)
+    → broadcast ≡ isBroadcast (message .command)
+    → shut ≡ cond (message .line) (core .shut .b) (core .shut .a)
+    → (not broadcast && not shut) ≡ replies core message
+unfolding replies
+replies-when core message broadcast shut is-broadcast is-shut = rw (is-broadcast, is-shut)
 
 module _ (format : Format) (core : Core) (message : OpenMessage) (given : Bool)
     (is-given : given ≡ replies core message) where
@@ -88,6 +121,24 @@ pub end-words-are : (format : Format) (core : Core) (message : OpenMessage) (giv
 unfolding endWords
 end-words-are format core message given moved words is-given is-moved is-words =
     rw (← is-given, ← is-moved) is-words
+
+-- ---- shut lines and inhibit
+
+pub shut-is : (code : ℕ) (line : Bool) (shut : Shut) (a b : Bool)
+    → a
+    ≡ cond (eqb code 8 || (eqb code 5 && line)) false (cond (eqb code 4 && line) true (shut .a))
+    → b
+    ≡ cond (eqb code 8 || (eqb code 5 && not line)) false
+    (cond (eqb code 4 && not line) true (shut .b))
+    → record { a = a; b = b } ≡ switchedShut code line shut
+unfolding switchedShut
+shut-is code line shut a b is-a is-b = rw (is-a, is-b)
+
+pub switch-is : (code : ℕ) (line : Bool) (core : Core) (shut : Shut) (inhibit : Bool)
+    → shut ≡ switchedShut code line (core .shut)
+    → inhibit ≡ switchedInhibit code (core .inhibit)
+    → withSwitches shut inhibit core ≡ switched code line core
+switch-is code line core shut inhibit is-shut is-inhibit = rw (is-shut, is-inhibit)
 
 -- ---- a fault, and the sound end
 

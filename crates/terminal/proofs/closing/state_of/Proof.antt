@@ -1,7 +1,7 @@
 -- `terminal::closing::state_of` meets its contract: each bit is what a call ensures. Assumes
 -- nothing.
 use borrow.Author.Needs.{needs}
-use Rattle.terminal.specs.Closing.{stateOf}
+use Rattle.terminal.proofs.ClosingLaws.{state-is}
 use Rattle.terminal.proofs.closing.state_of.Statement.{statement}
 use Rattle.terminal.proofs.closing.state_of.Tie as tie
 
@@ -15,8 +15,7 @@ word-requires : tie.Need-word-requires
 word-requires c κs = search needs
 
 returns : tie.Need-returns
-unfolding stateOf
-returns c = cc
+returns c = search (needs, state-is)
 
 pub state-of-spec : {M : Type 1} → statement M
 state-of-spec =

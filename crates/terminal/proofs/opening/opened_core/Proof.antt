@@ -1,8 +1,7 @@
 -- `terminal::opening::opened_core` meets its contract: each field is what a call ensures. Assumes
 -- nothing.
 use borrow.Author.Needs.{needs}
-use Rattle.terminal.specs.State.{withStatus, withLast, withMessage}
-use Rattle.terminal.specs.Opening.{openedCore}
+use Rattle.terminal.proofs.OpeningLaws.{core-is}
 use Rattle.terminal.proofs.opening.opened_core.Statement.{statement}
 use Rattle.terminal.proofs.opening.opened_core.Tie as tie
 
@@ -16,8 +15,7 @@ opened-last-requires : tie.Need-opened-last-requires
 opened-last-requires c κs = search needs
 
 returns : tie.Need-returns
-unfolding openedCore withMessage withLast withStatus
-returns c = cc
+returns c = search (needs, core-is)
 
 pub opened-core-spec : {M : Type 1} → statement M
 opened-core-spec =

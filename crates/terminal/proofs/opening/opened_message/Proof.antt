@@ -1,7 +1,7 @@
 -- `terminal::opening::opened_message` meets its contract: each field is what a call ensures.
 -- Assumes nothing.
 use borrow.Author.Needs.{needs}
-use Rattle.terminal.specs.Opening.{openedMessage}
+use Rattle.terminal.proofs.OpeningLaws.{message-is}
 use Rattle.terminal.proofs.opening.opened_message.Statement.{statement}
 use Rattle.terminal.proofs.opening.opened_message.Tie as tie
 
@@ -21,8 +21,7 @@ stage-at-requires : tie.Need-stage-at-requires
 stage-at-requires c κs = search needs
 
 returns : tie.Need-returns
-unfolding openedMessage
-returns c = cc
+returns c = search (needs, message-is)
 
 pub opened-message-spec : {M : Type 1} → statement M
 opened-message-spec =

@@ -2,6 +2,7 @@
 -- Assumes nothing.
 use borrow.Author.Needs.{needs}
 use Rattle.terminal.specs.State.{withSwitches}
+use Rattle.terminal.proofs.ClosingLaws.{switch-is}
 use Rattle.terminal.proofs.state.Core.switch.Statement.{statement}
 use Rattle.terminal.proofs.state.Core.switch.Tie as tie
 
@@ -13,7 +14,7 @@ switched-inhibit-requires c κs = search needs
 
 returns : tie.Need-returns
 unfolding withSwitches
-returns c = cc
+returns c = search (needs, switch-is)
 
 pub switch-spec : {M : Type 1} → statement M
 switch-spec = tie.close (tie.spec switched-shut-requires switched-inhibit-requires returns)

@@ -1,7 +1,7 @@
 -- `terminal::Terminal::at_setup` meets its contract: core and queue are what the calls ensure.
 -- Assumes nothing.
 use borrow.Author.Needs.{needs}
-use Rattle.terminal.specs.State.{terminalAtSetup}
+use Rattle.terminal.proofs.ActionLaws.{setup-is}
 use Rattle.terminal.proofs.state.Terminal.at_setup.Statement.{statement}
 use Rattle.terminal.proofs.state.Terminal.at_setup.Tie as tie
 
@@ -12,8 +12,7 @@ empty-requires : tie.Need-empty-requires
 empty-requires c κs = search needs
 
 returns : tie.Need-returns
-unfolding terminalAtSetup
-returns c = cc
+returns c = search (needs, setup-is)
 
 pub at-setup-spec : {M : Type 1} → statement M
 at-setup-spec = tie.close (tie.spec at-setup-requires empty-requires returns)

@@ -1,7 +1,7 @@
 -- `terminal::Terminal::is_fit` meets its contract: its tests are those that the calls answer.
 -- Assumes nothing.
 use borrow.Author.Needs.{needs}
-use Rattle.terminal.specs.Fitness.{fitTerminal}
+use Rattle.terminal.proofs.ActionLaws.{fit-terminal-is}
 use Rattle.terminal.proofs.state.Terminal.is_fit.Statement.{statement}
 use Rattle.terminal.proofs.state.Terminal.is_fit.Tie as tie
 
@@ -12,8 +12,7 @@ is-fit-requires-2 : tie.Need-is-fit-requires-2
 is-fit-requires-2 c κs = search needs
 
 returns : tie.Need-returns
-unfolding fitTerminal
-returns c = cc
+returns c = search (needs, fit-terminal-is)
 
 pub is-fit-spec : {M : Type 1} → statement M
 is-fit-spec = tie.close (tie.spec is-fit-requires is-fit-requires-2 returns)
