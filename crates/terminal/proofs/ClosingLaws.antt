@@ -1,5 +1,5 @@
 -- The laws of `specs/Closing.antt`, as the code puts a closing together. Assumes nothing.
-use mathlib.Core.Path.{_≡_}
+use mathlib.Core.Path.{_≡_, refl}
 use mathlib.Core.Bool.{Bool, true, false, cond, not, _&&_, _||_}
 use mathlib.Core.List.{List}
 use Prim.Native.Nat.{ℕ}
@@ -13,15 +13,20 @@ use Rattle.card.specs.Time.{ticksOf}
 use Rattle.queue.specs.declared.Queue.{Queue}
 use Rattle.message.specs.declared.format.Format.{Format}
 use Rattle.message.specs.declared.state.OpenMessage.{OpenMessage}
+use Rattle.message.specs.declared.state.Message.the-variants.{Idle}
+use Rattle.terminal.specs.declared.closing.Ending.{Ending}
+use Rattle.terminal.specs.declared.closing.Ending.the-variants.{Sound, Fault}
 use Rattle.terminal.specs.declared.state.Shut.{Shut}
 use Rattle.terminal.specs.declared.state.Core.{Core}
+use Rattle.terminal.specs.declared.state.Reply.{Reply}
 use Rattle.terminal.specs.declared.state.Reply.the-variants.{Silent, Status, Words, Last}
 use Rattle.message.specs.Message.{hasSecond}
-use Rattle.terminal.specs.State.{Card, card, withStatus, withSwitches}
+use Rattle.terminal.specs.State.{Card, card, withStatus, withSwitches, withMessage}
 use Rattle.terminal.specs.Closing.{
   unlessBusy,
   stateOf,
   closedRam,
+  closedQueue,
   closing,
   faulted,
   replies,
@@ -31,6 +36,14 @@ use Rattle.terminal.specs.Closing.{
   switched,
   endWords,
   ended,
+}
+use Rattle.terminal.specs.Ending.{
+  codeOf,
+  movedWords,
+  endingWords,
+  endingCore,
+  closedBy,
+  replyBy,
 }
 
 -- ---- the state word
@@ -113,13 +126,18 @@ pub ruleset replying = (reply-silent, reply-last, reply-status, reply-words)
 
 -- ---- the words of the state word
 
-pub end-words-are : (format : Format) (core : Core) (message : OpenMessage) (given : Bool)
-    (moved words : ℕ) → given ≡ replies core message
-    → moved ≡ cond (eqb (format .takes) 0) (cond given (format .sends) 0) (message .taken)
+pub moved-by : (ending known : Ending) (format : Format) (given : Bool) (taken words : ℕ)
+    → ending ≡ known → words ≡ movedWords known format given taken
+    → words ≡ movedWords ending format given taken
+moved-by ending known format given taken words is same = rw is same
+
+pub ending-words-are : (ending : Ending) (format : Format) (core : Core) (message : OpenMessage)
+    (given : Bool) (moved words : ℕ) → given ≡ replies core message
+    → moved ≡ movedWords ending format given (message .taken)
     → words ≡ unlessBusy format message moved
-    → words ≡ endWords format core message
-unfolding endWords
-end-words-are format core message given moved words is-given is-moved is-words =
+    → words ≡ endingWords ending format message core
+unfolding endingWords
+ending-words-are ending format core message given moved words is-given is-moved is-words =
     rw (← is-given, ← is-moved) is-words
 
 -- ---- shut lines and inhibit
@@ -142,22 +160,43 @@ switch-is code line core shut inhibit is-shut is-inhibit = rw (is-shut, is-inhib
 
 -- ---- a fault, and the sound end
 
-module _ (format : Format) (time : ℕ) (message : OpenMessage) (old : Core) (queue : Queue)
-    (ram : List ℕ) (words state : ℕ) (core : Core) (new : Card) where
-  pub fault-is : (code marked : ℕ) → words ≡ unlessBusy format message (message .taken)
-      → state ≡ stateOf code words message
-      → marked ≡ withError (old .status)
-      → core ≡ withStatus marked old
-      → new ≡ closing format state time message (card core queue ram)
-      → new ≡ faulted format code time message (card old queue ram)
-  unfolding faulted
-  fault-is code marked is-words is-state is-marked is-core is-new =
-      rw (← is-words, ← is-state, ← is-marked, ← is-core) is-new
+module _ (ending : Ending) (format : Format) (message : OpenMessage) (old new : Core) where
+  pub core-at-end : ending ≡ Sound → new ≡ switched (format .switch) (message .line) old
+      → new ≡ endingCore ending format message old
+  core-at-end is is-new = rw is is-new
 
-  pub end-is : words ≡ endWords format old message
-      → state ≡ stateOf 0 words message
-      → core ≡ switched (format .switch) (message .line) old
-      → new ≡ closing format state time message (card core queue ram)
-      → new ≡ ended format time message (card old queue ram)
-  unfolding ended
-  end-is is-words is-state is-core is-new = rw (← is-words, ← is-state, ← is-core) is-new
+  pub core-at-fault : (code marked : ℕ) → ending ≡ Fault code → marked ≡ withError (old .status)
+      → new ≡ withStatus marked old → new ≡ endingCore ending format message old
+  core-at-fault code marked is is-marked is-new = rw (is, ← is-marked) is-new
+
+pub ruleset cores = (core-at-end, core-at-fault)
+
+pub reply-by-ending : (ending known : Ending) (format : Format) (message : OpenMessage)
+    (core : Core) (reply : Reply) → ending ≡ known → reply ≡ replyBy known format message core
+    → reply ≡ replyBy ending format message core
+reply-by-ending ending known format message core reply is same = rw is same
+
+closed-by : (ending : Ending) (format : Format) (time : ℕ) (message : OpenMessage) (core : Core)
+    (queue : Queue) (ram : List ℕ)
+    → closing format (stateOf (codeOf ending) (endingWords ending format message core) message)
+    time message (card (endingCore ending format message core) queue ram)
+    ≡ closedBy ending format time message (card core queue ram)
+unfolding closedBy faulted ended endingWords endWords
+closed-by Sound format time message core queue ram = refl
+closed-by (Fault code) format time message core queue ram = refl
+
+pub close-is : (ending : Ending) (format : Format) (time : ℕ) (message : OpenMessage)
+    (old core idle : Core) (queue joined : Queue) (ram left : List ℕ) (words code state : ℕ)
+    → words ≡ endingWords ending format message old
+    → code ≡ codeOf ending
+    → state ≡ stateOf code words message
+    → left ≡ closedRam format state time message ram
+    → joined ≡ closedQueue format message queue
+    → core ≡ endingCore ending format message old
+    → idle ≡ withMessage Idle core
+    → card idle joined left ≡ closedBy ending format time message (card old queue ram)
+unfolding closing
+close-is ending format time message old core idle queue joined ram left words code state is-words
+    is-code is-state is-left is-joined is-core is-idle =
+    rw (is-idle, is-core, is-joined, is-left, is-state, is-code, is-words)
+    (closed-by ending format time message old queue ram)

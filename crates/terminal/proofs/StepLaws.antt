@@ -1,9 +1,10 @@
--- The laws of `specs/WordStep.antt` and `specs/SilenceStep.antt`, as the code does what was
--- decided: a law for each act. Assumes nothing.
-use mathlib.Core.Path.{_≡_, sym, ap, _∙_}
-use mathlib.Core.Bool.{Bool, true, false}
+-- The laws of `specs/WordStep.antt`, `specs/SilenceStep.antt` and `specs/Deed.antt`, as the code does
+-- what was decided: a law for each deed, and deeds come to what the acts ask. Assumes nothing.
+use mathlib.Core.Path.{_≡_, refl, sym, ap, _∙_}
+use mathlib.Core.Bool.{Bool, true, false, cond, not}
 use mathlib.Core.List.{List}
 use Prim.Native.Nat.{ℕ}
+use borrow.Author.Tests.{not-true, not-false}
 use Rattle.bus.specs.declared.kind.Kind.{Kind}
 use Rattle.bus.specs.Kind.{kindOf}
 use Rattle.card.specs.Memory.{withCell}
@@ -14,109 +15,106 @@ use Rattle.message.specs.declared.judge.WordAct.{WordAct}
 use Rattle.message.specs.declared.judge.WordAct.the-variants as word-acts
 use Rattle.message.specs.declared.judge.SilenceAct.{SilenceAct}
 use Rattle.message.specs.declared.judge.SilenceAct.the-variants as silence-acts
-use Rattle.message.specs.declared.state.Stage.the-variants.{
-  Data,
-  SecondCommand,
-  AwaitingStatus,
-}
-use Rattle.message.specs.declared.state.Second.the-variants.{Command}
+use Rattle.message.specs.declared.state.Stage.{Stage}
+use Rattle.message.specs.declared.state.Stage.the-variants.{Data, AwaitingStatus}
+use Rattle.message.specs.declared.state.Second.{Second}
 use Rattle.message.specs.declared.state.OpenMessage.{OpenMessage}
 use Rattle.message.specs.declared.state.Message.{Message}
 use Rattle.message.specs.declared.state.Message.the-variants.{Idle, Open}
+use Rattle.message.specs.declared.state.Word.{Word}
+use Rattle.terminal.specs.declared.closing.Ending.{Ending}
+use Rattle.terminal.specs.declared.closing.Ending.the-variants as endings
+use Rattle.terminal.specs.declared.machine.WordDeed.{WordDeed}
+use Rattle.terminal.specs.declared.machine.WordDeed.the-variants as word-deeds
+use Rattle.terminal.specs.declared.machine.SilenceDeed.{SilenceDeed}
+use Rattle.terminal.specs.declared.machine.SilenceDeed.the-variants as silence-deeds
 use Rattle.terminal.specs.declared.state.Core.{Core}
 use Rattle.terminal.specs.declared.state.Held.{Held}
-use Rattle.terminal.specs.declared.state.Heard.{Heard}
 use Rattle.terminal.specs.declared.state.Reply.{Reply}
 use Rattle.terminal.specs.declared.state.Reply.the-variants.{Silent}
-use Rattle.message.specs.declared.state.Word.{Word}
-use Rattle.terminal.specs.State.{Card, card, withMessage}
 use Rattle.message.specs.Message.{further}
 use Rattle.message.specs.Format.{formatBy}
-use Rattle.message.specs.Words.{ownCommand}
-use Rattle.terminal.specs.Opening.{openedAt, opening}
-use Rattle.message.specs.Words.{onWord}
+use Rattle.message.specs.Words.{ownCommand, onWord}
 use Rattle.message.specs.Silence.{onSilence}
-use Rattle.terminal.specs.Closing.{faulted, ended, replyOf}
-use Rattle.terminal.specs.Event.{Shown, shown, seen, replied}
+use Rattle.terminal.specs.State.{Card, card, withMessage}
+use Rattle.terminal.specs.Opening.{openedAt, opening}
+use Rattle.terminal.specs.Ending.{closedBy, replyBy}
+use Rattle.terminal.specs.Event.{Shown, shown, seen, replied, opens, quietly}
 use Rattle.terminal.specs.WordStep.{wordDone, wordMet, wordStep}
 use Rattle.terminal.specs.SilenceStep.{silenceDone, silenceMet, silenceStep}
+use Rattle.terminal.specs.Deed.{
+  wordDeed,
+  opensBy,
+  deedDone,
+  openedIf,
+  silenceDeed,
+  silenceBy,
+}
 
--- the core with the open message further on, beside the ring
-abbrev goingOn : OpenMessage → Core → Ring → Held
-goingOn message core ring = record { core = withMessage (Open message) core; ring = ring }
+-- ---- an act's deed
+
+pub word-deed-of : (act known : WordAct) (message : OpenMessage) (deed : WordDeed)
+    → act ≡ known → deed ≡ wordDeed known message → deed ≡ wordDeed act message
+word-deed-of act known message deed is same = rw is same
+
+pub silence-deed-of : (act known : SilenceAct) (deed : SilenceDeed)
+    → act ≡ known → deed ≡ silenceDeed known → deed ≡ silenceDeed act
+silence-deed-of act known deed is same = rw is same
+
+-- ---- the open message goes on
+
+pub went-on : (core new : Core) (message next : OpenMessage) (stage : Stage) (second : Second)
+    (taken : ℕ) → next ≡ further stage second taken message → new ≡ withMessage (Open next) core
+    → new ≡ withMessage (Open (further stage second taken message)) core
+went-on core new message next stage second taken is-next is-new = rw (← is-next) is-new
 
 -- ---- a word
 
-module _ (act : WordAct) (format : Format) (message : OpenMessage) (word : Word)
+module _ (deed : WordDeed) (format : Format) (message : OpenMessage) (word : Word)
     (core : Core) (places : List ℕ) (ring : Ring) (ram : List ℕ) where
   abbrev before : Card
   before = card core (queue places ring) ram
 
-  pub word-ignored : act ≡ word-acts.Ignore → before ≡ wordDone act format message word before .card
-  unfolding wordDone
-  word-ignored is = rw is
+  pub word-rested : deed ≡ word-deeds.Rest → before ≡ deedDone deed format message word before
+  unfolding deedDone
+  word-rested is = rw is
 
-  module _ (next : OpenMessage) (held : Held) (is-held : held ≡ goingOn next core ring) where
-    pub word-stored : (taken : ℕ) (stored : List ℕ) → act ≡ word-acts.Store taken
-        → stored ≡ withCell ram (message .block) (message .taken) (word .value)
-        → next ≡ further Data (message .second) taken message
-        → card (held .core) (queue places (held .ring)) stored
-        ≡ wordDone act format message word before .card
-    unfolding wordDone
-    word-stored taken stored is is-stored is-next = rw (is, is-held, is-stored, is-next)
+  pub word-went-on : (stage : Stage) (second : Second) (taken : ℕ) (new : Core)
+      → deed ≡ word-deeds.GoOn stage second taken
+      → new ≡ withMessage (Open (further stage second taken message)) core
+      → card new (queue places ring) ram ≡ deedDone deed format message word before
+  unfolding deedDone
+  word-went-on stage second taken new is is-new = rw (is, is-new)
 
-    pub word-checked : (taken : ℕ) → act ≡ word-acts.Check taken
-        → next ≡ further Data (message .second) taken message
-        → card (held .core) (queue places (held .ring)) ram
-        ≡ wordDone act format message word before .card
-    unfolding wordDone
-    word-checked taken is is-next = rw (is, is-held, is-next)
+  pub word-stored : (taken : ℕ) (stored : List ℕ) (new : Core) → deed ≡ word-deeds.Store taken
+      → stored ≡ withCell ram (message .block) (message .taken) (word .value)
+      → new ≡ withMessage (Open (further Data (message .second) taken message)) core
+      → card new (queue places ring) stored ≡ deedDone deed format message word before
+  unfolding deedDone
+  word-stored taken stored new is is-stored is-new = rw (is, is-stored, is-new)
 
-    pub second-taken : (value : ℕ) → act ≡ word-acts.TakeSecond value
-        → next ≡ further SecondCommand (Command value) (message .taken) message
-        → card (held .core) (queue places (held .ring)) ram
-        ≡ wordDone act format message word before .card
-    unfolding wordDone
-    second-taken value is is-next = rw (is, is-held, is-next)
-
-    pub status-taken : act ≡ word-acts.TakeStatus
-        → next ≡ further Data (message .second) (message .taken) message
-        → card (held .core) (queue places (held .ring)) ram
-        ≡ wordDone act format message word before .card
-    unfolding wordDone
-    status-taken is is-next = rw (is, is-held, is-next)
-
-  pub word-faulted : (code : ℕ) (new : Card) → act ≡ word-acts.Fault code
-      → new ≡ faulted format code (word .time) message before
-      → new ≡ wordDone act format message word before .card
-  unfolding wordDone
+  pub word-faulted : (code : ℕ) (new : Card) → deed ≡ word-deeds.Fault code
+      → new ≡ closedBy (endings.Fault code) format (word .time) message before
+      → new ≡ deedDone deed format message word before
+  unfolding deedDone closedBy
   word-faulted code new is is-new = rw is is-new
 
-  pub word-superseded : (held : Held) (places′ ram′ : List ℕ) (new : Core)
-      → act ≡ word-acts.Supersede
-      → card (held .core) (queue places′ (held .ring)) ram′
-      ≡ faulted format 7 (word .time) message before
-      → new ≡ openedAt word (held .core) ram′
-      → card new (queue places′ (held .ring)) ram′
-      ≡ wordDone act format message word before .card
-  unfolding wordDone opening
-  word-superseded held places′ ram′ new is is-held is-new = rw (is, ← is-held, is-new)
+pub ruleset word-acting = (word-rested, word-went-on, word-stored, word-faulted)
 
-  pub word-dropped : (new : Core) → act ≡ word-acts.Drop → new ≡ openedAt word core ram
-      → card new (queue places ring) ram ≡ wordDone act format message word before .card
-  unfolding wordDone opening
-  word-dropped new is is-new = rw (is, is-new)
-
-pub ruleset word-acting = (
-  word-ignored,
-  word-stored,
-  word-checked,
-  second-taken,
-  status-taken,
-  word-faulted,
-  word-superseded,
-  word-dropped,
-)
+-- the deed of an act, and then the opening, come to what the act asks
+deeds-of-words : (act : WordAct) (format : Format) (message : OpenMessage) (word : Word)
+    (old : Card)
+    → openedIf (opensBy act) word (deedDone (wordDeed act message) format message word old)
+    ≡ wordDone act format message word old .card
+unfolding deedDone wordDone
+deeds-of-words word-acts.Ignore format message word old = refl
+deeds-of-words (word-acts.Store taken) format message word old = refl
+deeds-of-words (word-acts.Check taken) format message word old = refl
+deeds-of-words (word-acts.TakeSecond value) format message word old = refl
+deeds-of-words word-acts.TakeStatus format message word old = refl
+deeds-of-words (word-acts.Fault code) format message word old = refl
+deeds-of-words word-acts.Supersede format message word old = refl
+deeds-of-words word-acts.Drop format message word old = refl
 
 module _ (word : Word) (core : Core) (places : List ℕ) (ring : Ring) (ram : List ℕ) where
   abbrev held-before : Card
@@ -128,62 +126,91 @@ module _ (word : Word) (core : Core) (places : List ℕ) (ring : Ring) (ram : Li
   unfolding wordStep
   word-step-by message is = sym (ap (λ (met : Message). wordMet met word held-before .card) is)
 
-  module _ (own : Bool) (idle : core .message ≡ Idle)
-      (is-own : own ≡ ownCommand (core .station) (core .flags) word) where
-    pub idle-opened : (new : Core) → own ≡ true → new ≡ openedAt word core ram
-        → card new (queue places ring) ram ≡ wordStep word held-before .card
-    unfolding opening
-    idle-opened new holds is-new = rw (← word-step-by Idle idle, ← is-own, holds, is-new)
-
-    pub idle-ignored : own ≡ false → held-before ≡ wordStep word held-before .card
-    idle-ignored fails = rw (← word-step-by Idle idle, ← is-own, fails)
+  pub idle-met : (own : Bool) → core .message ≡ Idle
+      → own ≡ ownCommand (core .station) (core .flags) word
+      → openedIf own word held-before ≡ wordStep word held-before .card
+  idle-met own idle is-own = rw (← word-step-by Idle idle, ← is-own) (go own)
+    where
+      go : (test : Bool)
+          → openedIf test word held-before
+          ≡ cond test (opens word held-before) (quietly held-before) .card
+      go true = refl
+      go false = refl
 
   pub open-met : (message : OpenMessage) (kind : Kind) (format : Format) (act : WordAct)
-      (new : Card)
+      (opened : Bool) (deed : WordDeed) (new : Card)
       → core .message ≡ Open message
       → kind ≡ kindOf (message .command) → format ≡ formatBy kind (message .command)
       → act ≡ onWord (core .station) (core .flags) format message word
-      → new ≡ wordDone act format message word held-before .card
-      → new ≡ wordStep word held-before .card
-  open-met message kind format act new is is-kind is-format is-act is-new =
-      rw (← word-step-by (Open message) is, ← is-kind, ← is-format, ← is-act) is-new
+      → opened ≡ opensBy act
+      → deed ≡ wordDeed act message
+      → new ≡ deedDone deed format message word held-before
+      → openedIf opened word new ≡ wordStep word held-before .card
+  open-met message kind format act opened deed new is is-kind is-format is-act is-opened is-deed
+      is-new =
+      rw (
+        ← word-step-by (Open message) is,
+        ← is-kind,
+        ← is-format,
+        ← is-act,
+        is-opened,
+        is-new,
+        is-deed,
+      ) (deeds-of-words act format message word held-before)
 
-pub ruleset word-meeting = (idle-opened, idle-ignored, open-met)
+pub ruleset word-meeting = (idle-met, open-met)
+
+module _ (opened : Bool) (word : Word) (places : List ℕ) (held : Held) (ram : List ℕ) (new : Card)
+    (is : openedIf opened word (card (held .core) (queue places (held .ring)) ram) ≡ new) where
+  pub word-left : not opened ≡ true → card (held .core) (queue places (held .ring)) ram ≡ new
+  word-left none = rw (not-true opened none) at is
+
+  pub word-opened : (core : Core) → not opened ≡ false → core ≡ openedAt word (held .core) ram
+      → card core (queue places (held .ring)) ram ≡ new
+  unfolding opening
+  word-opened core some is-core = rw is-core (rw (not-false opened some) at is)
+
+pub ruleset word-opening = (word-left, word-opened)
 
 -- ---- a silence
 
-module _ (act : SilenceAct) (format : Format) (message : OpenMessage) (time : ℕ)
+module _ (deed : SilenceDeed) (format : Format) (message : OpenMessage) (time : ℕ)
     (core : Core) (places : List ℕ) (ring : Ring) (ram : List ℕ) where
   abbrev waiting : Card
   waiting = card core (queue places ring) ram
 
-  pub silence-ignored : act ≡ silence-acts.Ignore
-      → shown waiting (replied Silent) ≡ seen (silenceDone act format message time waiting)
-  unfolding silenceDone
-  silence-ignored is = rw is
+  pub silence-rested : deed ≡ silence-deeds.Rest
+      → shown waiting (replied Silent) ≡ silenceBy deed format message time waiting
+  unfolding silenceBy
+  silence-rested is = rw is
 
-  pub status-awaited : (next : OpenMessage) (held : Held) → act ≡ silence-acts.AwaitStatus
-      → next ≡ further AwaitingStatus (message .second) (message .taken) message
-      → held ≡ goingOn next core ring
-      → shown (card (held .core) (queue places (held .ring)) ram) (replied Silent)
-      ≡ seen (silenceDone act format message time waiting)
-  unfolding silenceDone
-  status-awaited next held is is-next is-held = rw (is, is-held, is-next)
+  pub status-awaited : (new : Core) → deed ≡ silence-deeds.AwaitStatus
+      → new
+      ≡ withMessage (Open (further AwaitingStatus (message .second) (message .taken) message)) core
+      → shown (card new (queue places ring) ram) (replied Silent)
+      ≡ silenceBy deed format message time waiting
+  unfolding silenceBy
+  status-awaited new is is-new = rw (is, is-new)
 
-  pub silence-faulted : (code : ℕ) (new : Card) → act ≡ silence-acts.Fault code
-      → new ≡ faulted format code time message waiting
-      → shown new (replied Silent) ≡ seen (silenceDone act format message time waiting)
-  unfolding silenceDone
-  silence-faulted code new is is-new = rw (is, is-new)
+  pub silence-closed : (ending : Ending) (reply : Reply) (new : Card)
+      → deed ≡ silence-deeds.Close ending
+      → reply ≡ replyBy ending format message core
+      → new ≡ closedBy ending format time message waiting
+      → shown new (replied reply) ≡ silenceBy deed format message time waiting
+  unfolding silenceBy
+  silence-closed ending reply new is is-reply is-new = rw (is, is-reply, is-new)
 
-  pub silence-ended : (reply : Reply) (new : Card) → act ≡ silence-acts.End
-      → reply ≡ replyOf format core message
-      → new ≡ ended format time message waiting
-      → shown new (replied reply) ≡ seen (silenceDone act format message time waiting)
-  unfolding silenceDone
-  silence-ended reply new is is-reply is-new = rw (is, is-reply, is-new)
+pub ruleset silence-acting = (silence-rested, status-awaited, silence-closed)
 
-pub ruleset silence-acting = (silence-ignored, status-awaited, silence-faulted, silence-ended)
+deeds-of-silences : (act : SilenceAct) (format : Format) (message : OpenMessage) (time : ℕ)
+    (old : Card)
+    → silenceBy (silenceDeed act) format message time old
+    ≡ seen (silenceDone act format message time old)
+unfolding silenceBy closedBy silenceDone
+deeds-of-silences silence-acts.Ignore format message time old = refl
+deeds-of-silences silence-acts.AwaitStatus format message time old = refl
+deeds-of-silences (silence-acts.Fault code) format message time old = refl
+deeds-of-silences silence-acts.End format message time old = refl
 
 module _ (line : Bool) (time : ℕ) (core : Core) (places : List ℕ) (ring : Ring) (ram : List ℕ) where
   abbrev silent-before : Card
@@ -201,12 +228,20 @@ module _ (line : Bool) (time : ℕ) (core : Core) (places : List ℕ) (ring : Ri
   idle-silent idle = silence-step-by Idle idle
 
   pub open-silent : (message : OpenMessage) (kind : Kind) (format : Format) (act : SilenceAct)
-      (new : Shown) → core .message ≡ Open message
+      (deed : SilenceDeed) (new : Shown) → core .message ≡ Open message
       → kind ≡ kindOf (message .command) → format ≡ formatBy kind (message .command)
       → act ≡ onSilence format message line
-      → new ≡ seen (silenceDone act format message time silent-before)
+      → deed ≡ silenceDeed act
+      → new ≡ silenceBy deed format message time silent-before
       → new ≡ seen (silenceStep line time silent-before)
-  open-silent message kind format act new is is-kind is-format is-act is-new =
-      rw (← silence-step-by (Open message) is, ← is-kind, ← is-format, ← is-act) is-new
+  open-silent message kind format act deed new is is-kind is-format is-act is-deed is-new =
+      rw (
+        ← silence-step-by (Open message) is,
+        ← is-kind,
+        ← is-format,
+        ← is-act,
+        ← deeds-of-silences act format message time silent-before,
+        ← is-deed,
+      ) is-new
 
 pub ruleset silence-meeting = (idle-silent, open-silent)

@@ -3,18 +3,22 @@
 --     State          what is held, a setter for each field, setup
 --     Opening        what an opening does
 --     Closing        closing, faults, and the sound end
+--     Ending         closing by a fault or the sound end, in one, as the code does it
 --     Event          what happens to the terminal, and what comes of it
 --     WordStep       what rules 1 to 8 decide is done
 --     SilenceStep    what silence decides is done
+--     Deed           acts that do alike, in one, as the code does them
 --     Machine        one step for each event, and a run
 --     Fitness        refusal 4: which states are fit
 --     Actions        the actions of the library, refusals included
 pub mod State
 pub mod Opening
 pub mod Closing
+pub mod Ending
 pub mod Event
 pub mod WordStep
 pub mod SilenceStep
+pub mod Deed
 pub mod Machine
 pub mod Fitness
 pub mod Actions

@@ -1,24 +1,26 @@
 // Closing a message: by a fault, or by its sound end.
 ghost use mathlib.Core.Path.{_≡_};
 ghost use mathlib.Core.Bool.{cond, true, false};
-ghost use lib.Dec.{eqb};
 ghost use Rattle.queue.specs.Queue.{queue};
-ghost use Rattle.message.specs.declared.state.Message.the-variants.{Idle};
 ghost use Rattle.terminal.specs.State.{card, withStatus, withSwitches, withMessage};
 ghost use Rattle.terminal.specs.Closing.{
   unlessBusy,
   stateOf,
   closedRam,
   closedQueue,
-  closing,
-  faulted,
   replies,
   replyOf,
   switchedShut,
   switchedInhibit,
   switched,
-  endWords,
-  ended,
+};
+ghost use Rattle.terminal.specs.Ending.{
+  codeOf,
+  movedWords,
+  endingWords,
+  endingCore,
+  closedBy,
+  replyBy,
 };
 use crate::state::Core;
 use crate::state::Held;
@@ -36,6 +38,13 @@ use message::state;
 use message::state::Message;
 use message::state::OpenMessage;
 use queue::Ring;
+
+// How a message closes.
+pub enum Ending {
+    Sound,
+    // with a fault code
+    Fault(u16),
+}
 
 // Words stored or sent: none under busy where the format yields.
 fn unless_busy(format: Format, message: OpenMessage, words: u16) -> u16
@@ -123,53 +132,6 @@ impl Core {
         }
     }
 
-    // The open message closes, with the state word that is given.
-    fn close(
-        self,
-        ring: Ring,
-        places: &mut [u16; 256],
-        ram: &mut [u16],
-        format: Format,
-        state: u16,
-        time: u32,
-        message: OpenMessage,
-    ) -> Held
-        ensures { λ held. ⌜ card (held .core)
-            (queue (now (places .exit)) (held .ring)) (now (ram .exit))
-            ≡ closing format state time message
-            (card self (queue (now (places .entry)) ring) (now (ram .entry))) ⌝ }
-    {
-        close_ram(ram, format, state, time, message);
-        let joined = close_queue(ring, places, format, message);
-        let core = self.with_message(Message::Idle);
-        Held {
-            core: core,
-            ring: joined,
-        }
-    }
-    // A fault closes silently and sets message error.
-    pub fn fault(
-        self,
-        ring: Ring,
-        places: &mut [u16; 256],
-        ram: &mut [u16],
-        format: Format,
-        code: u16,
-        time: u32,
-        message: OpenMessage,
-    ) -> Held
-        ensures { λ held. ⌜ card (held .core)
-            (queue (now (places .exit)) (held .ring)) (now (ram .exit))
-            ≡ faulted format code time message
-            (card self (queue (now (places .entry)) ring) (now (ram .entry))) ⌝ }
-    {
-        let words = unless_busy(format, message, message.taken);
-        let state = state_of(code, words, message);
-        let marked = status::with_error(self.status);
-        let core = self.with_status(marked);
-        core.close(ring, places, ram, format, state, time, message)
-    }
-
     // A reply is given unless the message was broadcast or its line is shut.
     fn replies(self, message: OpenMessage) -> bool
         ensures { λ given. ⌜ given ≡ replies self message ⌝ }
@@ -181,7 +143,7 @@ impl Core {
     }
 
     // The sound end's reply: status, then words sent.
-    pub fn reply(self, format: Format, message: OpenMessage) -> Reply
+    fn reply(self, format: Format, message: OpenMessage) -> Reply
         ensures { λ reply. ⌜ reply ≡ replyOf format self message ⌝ }
     {
         let given = self.replies(message);
@@ -206,6 +168,16 @@ impl Core {
         }
     }
 
+    // A fault closes silently.
+    pub fn reply_by(self, ending: Ending, format: Format, message: OpenMessage) -> Reply
+        ensures { λ reply. ⌜ reply ≡ replyBy ending format message self ⌝ }
+    {
+        match ending {
+            Ending::Sound => self.reply(format, message),
+            Ending::Fault(_) => Reply::Silent,
+        }
+    }
+
     // What codes 4 to 8 do to shut lines and inhibit.
     fn switch(mut self, code: u16, line: bool) -> Core
         ensures { λ core. ⌜ core ≡ switched code line self ⌝ }
@@ -217,18 +189,29 @@ impl Core {
         self
     }
 
-    // The data words stored, or held by the reply given.
-    fn end_words(self, format: Format, message: OpenMessage) -> u16
-        ensures { λ words. ⌜ words ≡ endWords format self message ⌝ }
+    // The words of the state word: those stored, or held by the reply given.
+    fn ending_words(self, ending: Ending, format: Format, message: OpenMessage) -> u16
+        ensures { λ words. ⌜ words ≡ endingWords ending format message self ⌝ }
     {
         let given = self.replies(message);
-        let moved = moved_words(format, given, message.taken);
+        let moved = moved_words(ending, format, given, message.taken);
         unless_busy(format, message, moved)
     }
 
-    // The message ends sound.
-    pub fn end(
+    // A fault sets message error; at the sound end codes 4 to 8 act.
+    fn ending_core(self, ending: Ending, format: Format, message: OpenMessage) -> Core
+        ensures { λ core. ⌜ core ≡ endingCore ending format message self ⌝ }
+    {
+        match ending {
+            Ending::Sound => self.switch(format.switch, message.line),
+            Ending::Fault(_) => self.with_status(status::with_error(self.status)),
+        }
+    }
+
+    // The open message closes.
+    pub fn close(
         self,
+        ending: Ending,
         ring: Ring,
         places: &mut [u16; 256],
         ram: &mut [u16],
@@ -238,13 +221,28 @@ impl Core {
     ) -> Held
         ensures { λ held. ⌜ card (held .core)
             (queue (now (places .exit)) (held .ring)) (now (ram .exit))
-            ≡ ended format time message
+            ≡ closedBy ending format time message
             (card self (queue (now (places .entry)) ring) (now (ram .entry))) ⌝ }
     {
-        let words = self.end_words(format, message);
-        let state = state_of(0, words, message);
-        let core = self.switch(format.switch, message.line);
-        core.close(ring, places, ram, format, state, time, message)
+        let words = self.ending_words(ending, format, message);
+        let state = state_of(code_of(ending), words, message);
+        close_ram(ram, format, state, time, message);
+        let joined = close_queue(ring, places, format, message);
+        let core = self.ending_core(ending, format, message);
+        Held {
+            core: core.with_message(Message::Idle),
+            ring: joined,
+        }
+    }
+}
+
+// Code 0 is no fault.
+fn code_of(ending: Ending) -> u16
+    ensures { λ code. ⌜ code ≡ codeOf ending ⌝ }
+{
+    match ending {
+        Ending::Sound => 0,
+        Ending::Fault(code) => code,
     }
 }
 
@@ -255,17 +253,21 @@ fn is_shut(shut: Shut, line: bool) -> bool
 }
 
 // What takes words has stored them; what sends has sent them where a reply was given.
-fn moved_words(format: Format, given: bool, taken: u16) -> u16
-    ensures { λ words. ⌜ words
-        ≡ cond (eqb (format .takes) 0) (cond given (format .sends) 0) taken ⌝ }
+fn moved_words(ending: Ending, format: Format, given: bool, taken: u16) -> u16
+    ensures { λ words. ⌜ words ≡ movedWords ending format given taken ⌝ }
 {
-    if format.takes == 0 {
-        if given {
-            return format.sends;
+    match ending {
+        Ending::Sound => {
+            if format.takes == 0 {
+                if given {
+                    return format.sends;
+                }
+                return 0;
+            }
+            taken
         }
-        return 0;
+        Ending::Fault(_) => taken,
     }
-    taken
 }
 
 // 4 shuts and 5 opens the other line; 8 opens both.

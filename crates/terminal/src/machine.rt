@@ -1,13 +1,22 @@
-// Words and silences over what a run holds. These are total: fitness is judged by the actions, and
-// a run that starts fit stays so.
+// Words and silences over what a run holds: decided first, then done. These are total: fitness is
+// judged by the actions, and a run that starts fit stays so.
 ghost use mathlib.Core.Path.{_≡_};
 ghost use Rattle.queue.specs.Queue.{queue};
 ghost use Rattle.message.specs.declared.state.Message.the-variants.{Open};
-ghost use Rattle.terminal.specs.State.{card, withMessage};
 ghost use Rattle.message.specs.Message.{further};
+ghost use Rattle.terminal.specs.State.{card, withMessage};
 ghost use Rattle.terminal.specs.Event.{shown, seen, replied};
-ghost use Rattle.terminal.specs.WordStep.{wordDone, wordStep};
-ghost use Rattle.terminal.specs.SilenceStep.{silenceDone, silenceStep};
+ghost use Rattle.terminal.specs.WordStep.{wordStep};
+ghost use Rattle.terminal.specs.SilenceStep.{silenceStep};
+ghost use Rattle.terminal.specs.Deed.{
+  wordDeed,
+  opensBy,
+  openedIf,
+  deedDone,
+  silenceDeed,
+  silenceBy,
+};
+use crate::closing::Ending;
 use crate::state::Core;
 use crate::state::Heard;
 use crate::state::Held;
@@ -28,23 +37,91 @@ use message::state::Stage;
 use message::state::Word;
 use queue::Ring;
 
+// What a word does to the open message.
+pub enum WordDeed {
+    Rest,
+    // the message goes on: its stage, second command and words taken then
+    GoOn(Stage, Second, u16),
+    // the word is stored; so many are taken then
+    Store(u16),
+    // the message closes with a fault code
+    Fault(u16),
+}
+
+// What a silence does to the open message.
+pub enum SilenceDeed {
+    Rest,
+    AwaitStatus,
+    Close(Ending),
+}
+
+// What is held before a word opens a message, and whether it does.
+pub struct Met {
+    pub held: Held,
+    pub opens: bool,
+}
+
+// The acts of a word, told by what they do: all faults close in one place.
+fn word_deed(act: WordAct, message: OpenMessage) -> WordDeed
+    ensures { λ deed. ⌜ deed ≡ wordDeed act message ⌝ }
+{
+    let second = message.second;
+    match act {
+        WordAct::Ignore => WordDeed::Rest,
+        WordAct::Store(taken) => WordDeed::Store(taken),
+        WordAct::Check(taken) => WordDeed::GoOn(Stage::Data, second, taken),
+        WordAct::TakeSecond(value) => {
+            WordDeed::GoOn(Stage::SecondCommand, Second::Command(value), message.taken)
+        }
+        WordAct::TakeStatus => WordDeed::GoOn(Stage::Data, second, message.taken),
+        WordAct::Fault(code) => WordDeed::Fault(code),
+        WordAct::Supersede => WordDeed::Fault(7),
+        WordAct::Drop => WordDeed::Rest,
+    }
+}
+
+// The acts after which the word opens a message.
+fn opens_by(act: WordAct) -> bool
+    ensures { λ opens. ⌜ opens ≡ opensBy act ⌝ }
+{
+    match act {
+        WordAct::Ignore => false,
+        WordAct::Store(_) => false,
+        WordAct::Check(_) => false,
+        WordAct::TakeSecond(_) => false,
+        WordAct::TakeStatus => false,
+        WordAct::Fault(_) => false,
+        WordAct::Supersede => true,
+        WordAct::Drop => true,
+    }
+}
+
+// The acts of a silence, told by what they do: fault and sound end close in one place.
+fn silence_deed(act: SilenceAct) -> SilenceDeed
+    ensures { λ deed. ⌜ deed ≡ silenceDeed act ⌝ }
+{
+    match act {
+        SilenceAct::Ignore => SilenceDeed::Rest,
+        SilenceAct::AwaitStatus => SilenceDeed::AwaitStatus,
+        SilenceAct::Fault(code) => SilenceDeed::Close(Ending::Fault(code)),
+        SilenceAct::End => SilenceDeed::Close(Ending::Sound),
+    }
+}
+
 impl Core {
     // The open message goes on.
-    fn go_on(self, ring: Ring, message: OpenMessage) -> Held
-        ensures { λ held. ⌜ held
-            ≡ record { core = withMessage (Open message) self; ring = ring } ⌝ }
+    fn go_on(self, message: OpenMessage, stage: Stage, second: Second, taken: u16) -> Core
+        ensures { λ core. ⌜ core
+            ≡ withMessage (Open (further stage second taken message)) self ⌝ }
     {
-        let core = self.with_message(Message::Open(message));
-        Held {
-            core: core,
-            ring: ring,
-        }
+        let next = message.further(stage, second, taken);
+        self.with_message(Message::Open(next))
     }
 
-    // What the rules decided of a word is done.
+    // What the rules decided of a word is done to the open message.
     fn word_done(
         self,
-        act: WordAct,
+        deed: WordDeed,
         ring: Ring,
         places: &mut [u16; 256],
         ram: &mut [u16],
@@ -54,48 +131,62 @@ impl Core {
     ) -> Held
         ensures { λ held. ⌜ card (held .core)
             (queue (now (places .exit)) (held .ring)) (now (ram .exit))
-            ≡ wordDone act format message word
-            (card self (queue (now (places .entry)) ring) (now (ram .entry))) .card ⌝ }
+            ≡ deedDone deed format message word
+            (card self (queue (now (places .entry)) ring) (now (ram .entry))) ⌝ }
     {
-        let second = message.second;
-        match act {
-            WordAct::Ignore => Held {
+        match deed {
+            WordDeed::Rest => Held {
                 core: self,
                 ring: ring,
             },
-            WordAct::Store(taken) => {
+            WordDeed::GoOn(stage, second, taken) => Held {
+                core: self.go_on(message, stage, second, taken),
+                ring: ring,
+            },
+            WordDeed::Store(taken) => {
                 memory::write_cell(ram, Block(message.block), Cell(message.taken), word.value);
-                self.go_on(ring, message.further(Stage::Data, second, taken))
-            }
-            WordAct::Check(taken) => self.go_on(ring, message.further(Stage::Data, second, taken)),
-            WordAct::TakeSecond(value) => {
-                let taken = Second::Command(value);
-                self.go_on(
-                    ring,
-                    message.further(Stage::SecondCommand, taken, message.taken),
-                )
-            }
-            WordAct::TakeStatus => {
-                self.go_on(ring, message.further(Stage::Data, second, message.taken))
-            }
-            WordAct::Fault(code) => {
-                self.fault(ring, places, ram, format, code, word.time, message)
-            }
-            WordAct::Supersede => {
-                let held = self.fault(ring, places, ram, format, 7, word.time, message);
-                let left = held.ring;
-                let closed = held.core;
-                let core = closed.open(ram, word);
+                let second = message.second;
                 Held {
-                    core: core,
-                    ring: left,
+                    core: self.go_on(message, Stage::Data, second, taken),
+                    ring: ring,
                 }
             }
-            WordAct::Drop => {
-                let core = self.open(ram, word);
-                Held {
-                    core: core,
-                    ring: ring,
+            WordDeed::Fault(code) => {
+                let ending = Ending::Fault(code);
+                self.close(ending, ring, places, ram, format, word.time, message)
+            }
+        }
+    }
+
+    // What a word does before it opens a message. With nothing open, any own command opens.
+    fn meet(self, ring: Ring, places: &mut [u16; 256], ram: &mut [u16], word: Word) -> Met
+        ensures { λ met. ⌜ openedIf (met .opens) word (card (met .held .core)
+            (queue (now (places .exit)) (met .held .ring)) (now (ram .exit)))
+            ≡ wordStep word
+            (card self (queue (now (places .entry)) ring) (now (ram .entry))) .card ⌝ }
+    {
+        let message = self.message;
+        match message {
+            Message::Idle => {
+                let own = judge::is_own(self.station, self.flags, word);
+                Met {
+                    held: Held {
+                        core: self,
+                        ring: ring,
+                    },
+                    opens: own,
+                }
+            }
+            Message::Open(held) => {
+                let kind = kind::kind_of(held.command);
+                let format = format::format_by(kind, held.command);
+                let act = judge::on_word(self.station, self.flags, format, held, word);
+                let opens = opens_by(act);
+                let deed = word_deed(act, held);
+                let left = self.word_done(deed, ring, places, ram, format, held, word);
+                Met {
+                    held: left,
+                    opens: opens,
                 }
             }
         }
@@ -108,34 +199,24 @@ impl Core {
             ≡ wordStep word
             (card self (queue (now (places .entry)) ring) (now (ram .entry))) .card ⌝ }
     {
-        let message = self.message;
-        match message {
-            Message::Idle => {
-                if judge::is_own(self.station, self.flags, word) {
-                    let core = self.open(ram, word);
-                    return Held {
-                        core: core,
-                        ring: ring,
-                    };
-                }
-                Held {
-                    core: self,
-                    ring: ring,
-                }
-            }
-            Message::Open(held) => {
-                let kind = kind::kind_of(held.command);
-                let format = format::format_by(kind, held.command);
-                let act = judge::on_word(self.station, self.flags, format, held, word);
-                self.word_done(act, ring, places, ram, format, held, word)
-            }
+        let met = self.meet(ring, places, ram, word);
+        let held = met.held;
+        let opens = met.opens;
+        if !opens {
+            return held;
+        }
+        let left = held.core;
+        let next = held.ring;
+        Held {
+            core: left.open(ram, word),
+            ring: next,
         }
     }
 
     // What a silence decided is done.
     fn silence_done(
         self,
-        act: SilenceAct,
+        deed: SilenceDeed,
         ring: Ring,
         places: &mut [u16; 256],
         ram: &mut [u16],
@@ -146,36 +227,31 @@ impl Core {
         ensures { λ heard. ⌜ shown (card (heard .held .core)
             (queue (now (places .exit)) (heard .held .ring)) (now (ram .exit)))
             (replied (heard .reply))
-            ≡ seen (silenceDone act format message time
-            (card self (queue (now (places .entry)) ring) (now (ram .entry)))) ⌝ }
+            ≡ silenceBy deed format message time
+            (card self (queue (now (places .entry)) ring) (now (ram .entry))) ⌝ }
     {
-        match act {
-            SilenceAct::Ignore => Heard {
+        match deed {
+            SilenceDeed::Rest => Heard {
                 held: Held {
                     core: self,
                     ring: ring,
                 },
                 reply: Reply::Silent,
             },
-            SilenceAct::AwaitStatus => {
+            SilenceDeed::AwaitStatus => {
                 let second = message.second;
-                let next = message.further(Stage::AwaitingStatus, second, message.taken);
-                let held = self.go_on(ring, next);
+                let core = self.go_on(message, Stage::AwaitingStatus, second, message.taken);
                 Heard {
-                    held: held,
+                    held: Held {
+                        core: core,
+                        ring: ring,
+                    },
                     reply: Reply::Silent,
                 }
             }
-            SilenceAct::Fault(code) => {
-                let held = self.fault(ring, places, ram, format, code, time, message);
-                Heard {
-                    held: held,
-                    reply: Reply::Silent,
-                }
-            }
-            SilenceAct::End => {
-                let reply = self.reply(format, message);
-                let held = self.end(ring, places, ram, format, time, message);
+            SilenceDeed::Close(ending) => {
+                let reply = self.reply_by(ending, format, message);
+                let held = self.close(ending, ring, places, ram, format, time, message);
                 Heard {
                     held: held,
                     reply: reply,
@@ -211,8 +287,8 @@ impl Core {
             Message::Open(held) => {
                 let kind = kind::kind_of(held.command);
                 let format = format::format_by(kind, held.command);
-                let act = judge::on_silence(format, held, line);
-                self.silence_done(act, ring, places, ram, format, held, time)
+                let deed = silence_deed(judge::on_silence(format, held, line));
+                self.silence_done(deed, ring, places, ram, format, held, time)
             }
         }
     }

@@ -1,15 +1,27 @@
--- `terminal::Core::close` meets its contract: memory, queue and core are what the calls ensure.
--- Assumes nothing.
+-- `terminal::Core::close` meets its contract: state word, memory, queue and core are what the calls
+-- ensure. Assumes nothing.
 use borrow.Author.Needs.{needs}
-use Rattle.terminal.specs.Closing.{closing}
+use Rattle.terminal.proofs.ClosingLaws.{close-is}
 use Rattle.terminal.proofs.state.Core.close.Statement.{statement}
 use Rattle.terminal.proofs.state.Core.close.Tie as tie
+
+ending-words-requires : tie.Need-ending-words-requires
+ending-words-requires c κs = search needs
+
+code-of-requires : tie.Need-code-of-requires
+code-of-requires c κs = search needs
+
+state-of-requires : tie.Need-state-of-requires
+state-of-requires c κs = search needs
 
 close-ram-requires : tie.Need-close-ram-requires
 close-ram-requires c κs = search needs
 
 close-queue-requires : tie.Need-close-queue-requires
 close-queue-requires c κs = search needs
+
+ending-core-requires : tie.Need-ending-core-requires
+ending-core-requires c κs = search needs
 
 with-message-requires : tie.Need-with-message-requires
 with-message-requires c κs = search needs
@@ -18,10 +30,18 @@ same-length : tie.Need-same-length
 same-length c = search needs
 
 returns : tie.Need-returns
-unfolding closing
-returns c = cc
+returns c = search (needs, close-is) depth 9
 
 pub close-spec : {M : Type 1} → statement M
 close-spec =
     tie.close
-    (tie.spec close-ram-requires close-queue-requires with-message-requires same-length returns)
+    (tie.spec
+    ending-words-requires
+    code-of-requires
+    state-of-requires
+    close-ram-requires
+    close-queue-requires
+    ending-core-requires
+    with-message-requires
+    same-length
+    returns)

@@ -20,6 +20,9 @@ format-by-requires c κs = search needs
 on-silence-requires : tie.Need-on-silence-requires
 on-silence-requires c κs = search needs
 
+silence-deed-requires : tie.Need-silence-deed-requires
+silence-deed-requires c κs = search needs
+
 silence-done-requires : tie.Need-silence-done-requires
 silence-done-requires c κs = search needs
 
@@ -41,6 +44,7 @@ silence-spec =
     kind-of-requires
     format-by-requires
     on-silence-requires
+    silence-deed-requires
     silence-done-requires
     returns
     same-length

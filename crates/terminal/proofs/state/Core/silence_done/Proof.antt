@@ -1,4 +1,4 @@
--- `terminal::Core::silence_done` meets its contract: a law for each act. Assumes nothing.
+-- `terminal::Core::silence_done` meets its contract: a law for each deed. Assumes nothing.
 use borrow.Author.Needs.{needs}
 use Rattle.terminal.proofs.StepLaws.{silence-acting}
 use Rattle.terminal.proofs.state.Core.silence_done.Statement.{statement}
@@ -10,26 +10,17 @@ enum-told c = search needs
 enum-told-2 : tie.Need-enum-told-2
 enum-told-2 c = search needs
 
-further-requires : tie.Need-further-requires
-further-requires c κs = search needs
-
 go-on-requires : tie.Need-go-on-requires
 go-on-requires c κs = search needs
 
-enum-known-act : tie.Need-enum-known-act
-enum-known-act c = search needs
+enum-known-deed : tie.Need-enum-known-deed
+enum-known-deed c = search needs
 
-fault-requires : tie.Need-fault-requires
-fault-requires c κs = search needs
+reply-by-requires : tie.Need-reply-by-requires
+reply-by-requires c κs = search needs
 
-enum-told-3 : tie.Need-enum-told-3
-enum-told-3 c = search needs
-
-reply-requires : tie.Need-reply-requires
-reply-requires c κs = search needs
-
-end-requires : tie.Need-end-requires
-end-requires c κs = search needs
+close-requires : tie.Need-close-requires
+close-requires c κs = search needs
 
 returns : tie.Need-returns
 returns c = search (needs, silence-acting) depth 9
@@ -43,28 +34,17 @@ same-length c = search needs
 returns-3 : tie.Need-returns-3
 returns-3 c = search (needs, silence-acting) depth 9
 
-same-length-2 : tie.Need-same-length-2
-same-length-2 c = search needs
-
-returns-4 : tie.Need-returns-4
-returns-4 c = search (needs, silence-acting) depth 9
-
 pub silence-done-spec : {M : Type 1} → statement M
 silence-done-spec =
     tie.close
     (tie.spec
     enum-told
     enum-told-2
-    further-requires
     go-on-requires
-    enum-known-act
-    fault-requires
-    enum-told-3
-    reply-requires
-    end-requires
+    enum-known-deed
+    reply-by-requires
+    close-requires
     returns
     returns-2
     same-length
-    returns-3
-    same-length-2
-    returns-4)
+    returns-3)

@@ -1,63 +1,28 @@
--- `terminal::Core::word` meets its contract: nothing open, or a message that a word meets. Assumes
+-- `terminal::Core::word` meets its contract: the word opens a message, or does not. Assumes
 -- nothing.
 use borrow.Author.Needs.{needs}
-use Rattle.terminal.proofs.StepLaws.{word-meeting}
+use Rattle.terminal.proofs.StepLaws.{word-opening}
 use Rattle.terminal.proofs.state.Core.word.Statement.{statement}
 use Rattle.terminal.proofs.state.Core.word.Tie as tie
 
-enum-told : tie.Need-enum-told
-enum-told c = search needs
-
-is-own-requires : tie.Need-is-own-requires
-is-own-requires c κs = search needs
-
-open-requires : tie.Need-open-requires
-open-requires c κs = search needs
+meet-requires : tie.Need-meet-requires
+meet-requires c κs = search needs
 
 same-length : tie.Need-same-length
 same-length c = search needs
 
 returns : tie.Need-returns
-returns c = search (needs, word-meeting) depth 9
+returns c = search (needs, word-opening) depth 9
 
-enum-known-message : tie.Need-enum-known-message
-enum-known-message c = search needs
-
-kind-of-requires : tie.Need-kind-of-requires
-kind-of-requires c κs = search needs
-
-format-by-requires : tie.Need-format-by-requires
-format-by-requires c κs = search needs
-
-on-word-requires : tie.Need-on-word-requires
-on-word-requires c κs = search needs
-
-word-done-requires : tie.Need-word-done-requires
-word-done-requires c κs = search needs
-
-returns-2 : tie.Need-returns-2
-returns-2 c = search (needs, word-meeting) depth 9
+open-requires : tie.Need-open-requires
+open-requires c κs = search needs
 
 same-length-2 : tie.Need-same-length-2
 same-length-2 c = search needs
 
-returns-3 : tie.Need-returns-3
-returns-3 c = search (needs, word-meeting) depth 9
+returns-2 : tie.Need-returns-2
+returns-2 c = search (needs, word-opening) depth 9
 
 pub word-spec : {M : Type 1} → statement M
 word-spec =
-    tie.close
-    (tie.spec
-    enum-told
-    is-own-requires
-    open-requires
-    same-length
-    returns
-    enum-known-message
-    kind-of-requires
-    format-by-requires
-    on-word-requires
-    word-done-requires
-    returns-2
-    same-length-2
-    returns-3)
+    tie.close (tie.spec meet-requires same-length returns open-requires same-length-2 returns-2)

@@ -1,0 +1,92 @@
+-- What words and silences do to the open message, one deed for the acts that do alike: the cut that
+-- the code makes. What it comes to is said by `WordStep` and `SilenceStep`. Definitions only.
+-- Assumes nothing.
+use mathlib.Core.Bool.{Bool, true, false, cond}
+use Prim.Native.Nat.{ℕ}
+use Rattle.card.specs.Memory.{withCell}
+use Rattle.message.specs.declared.format.Format.{Format}
+use Rattle.message.specs.declared.judge.WordAct.{WordAct}
+use Rattle.message.specs.declared.judge.WordAct.the-variants as word-acts
+use Rattle.message.specs.declared.judge.SilenceAct.{SilenceAct}
+use Rattle.message.specs.declared.judge.SilenceAct.the-variants as silence-acts
+use Rattle.message.specs.declared.state.Stage.the-variants.{
+  Data,
+  SecondCommand,
+  AwaitingStatus,
+}
+use Rattle.message.specs.declared.state.Second.the-variants.{Command}
+use Rattle.message.specs.declared.state.OpenMessage.{OpenMessage}
+use Rattle.message.specs.declared.state.Message.the-variants.{Open}
+use Rattle.message.specs.declared.state.Word.{Word}
+use Rattle.message.specs.Message.{further}
+use Rattle.terminal.specs.declared.closing.Ending.the-variants as endings
+use Rattle.terminal.specs.declared.machine.WordDeed.{WordDeed}
+use Rattle.terminal.specs.declared.machine.WordDeed.the-variants as word-deeds
+use Rattle.terminal.specs.declared.machine.SilenceDeed.{SilenceDeed}
+use Rattle.terminal.specs.declared.machine.SilenceDeed.the-variants as silence-deeds
+use Rattle.terminal.specs.declared.state.Reply.the-variants.{Silent}
+use Rattle.terminal.specs.State.{Card, card, withMessage}
+use Rattle.terminal.specs.Opening.{opening}
+use Rattle.terminal.specs.Closing.{faulted}
+use Rattle.terminal.specs.Event.{Shown, shown, replied}
+use Rattle.terminal.specs.Ending.{closedBy, replyBy}
+
+-- ---- a word
+
+abbrev pub wordDeed : WordAct → OpenMessage → WordDeed
+wordDeed word-acts.Ignore message = word-deeds.Rest
+wordDeed (word-acts.Store taken) message = word-deeds.Store taken
+wordDeed (word-acts.Check taken) message = word-deeds.GoOn Data (message .second) taken
+wordDeed (word-acts.TakeSecond value) message =
+    word-deeds.GoOn SecondCommand (Command value) (message .taken)
+wordDeed word-acts.TakeStatus message = word-deeds.GoOn Data (message .second) (message .taken)
+wordDeed (word-acts.Fault code) message = word-deeds.Fault code
+wordDeed word-acts.Supersede message = word-deeds.Fault 7
+wordDeed word-acts.Drop message = word-deeds.Rest
+
+abbrev pub opensBy : WordAct → Bool
+opensBy word-acts.Ignore = false
+opensBy (word-acts.Store taken) = false
+opensBy (word-acts.Check taken) = false
+opensBy (word-acts.TakeSecond value) = false
+opensBy word-acts.TakeStatus = false
+opensBy (word-acts.Fault code) = false
+opensBy word-acts.Supersede = true
+opensBy word-acts.Drop = true
+
+unfoldable pub deedDone : WordDeed → Format → OpenMessage → Word → Card → Card
+deedDone word-deeds.Rest format message word old = old
+deedDone (word-deeds.GoOn stage second taken) format message word old =
+    card (withMessage (Open (further stage second taken message)) (old .core))
+    (old .queue) (old .ram)
+deedDone (word-deeds.Store taken) format message word old =
+    card (withMessage (Open (further Data (message .second) taken message)) (old .core))
+    (old .queue)
+    (withCell (old .ram) (message .block) (message .taken) (word .value))
+deedDone (word-deeds.Fault code) format message word old =
+    faulted format code (word .time) message old
+
+-- then the word may open a message
+abbrev pub openedIf : Bool → Word → Card → Card
+openedIf opens word left = cond opens (opening word left) left
+
+-- ---- a silence
+
+abbrev pub silenceDeed : SilenceAct → SilenceDeed
+silenceDeed silence-acts.Ignore = silence-deeds.Rest
+silenceDeed silence-acts.AwaitStatus = silence-deeds.AwaitStatus
+silenceDeed (silence-acts.Fault code) = silence-deeds.Close (endings.Fault code)
+silenceDeed silence-acts.End = silence-deeds.Close endings.Sound
+
+unfoldable pub silenceBy : SilenceDeed → Format → OpenMessage → ℕ → Card → Shown
+silenceBy silence-deeds.Rest format message time old = shown old (replied Silent)
+silenceBy silence-deeds.AwaitStatus format message time old =
+    shown
+    (card
+    (withMessage (Open (further AwaitingStatus (message .second) (message .taken) message))
+    (old .core))
+    (old .queue) (old .ram))
+    (replied Silent)
+silenceBy (silence-deeds.Close ending) format message time old =
+    shown (closedBy ending format time message old)
+    (replied (replyBy ending format message (old .core)))
