@@ -63,10 +63,14 @@ silence-deed-of act known deed is same = rw is same
 
 -- ---- the open message goes on
 
-pub went-on : (core new : Core) (message next : OpenMessage) (stage : Stage) (second : Second)
-    (taken : ℕ) → next ≡ further stage second taken message → new ≡ withMessage (Open next) core
-    → new ≡ withMessage (Open (further stage second taken message)) core
-went-on core new message next stage second taken is-next is-new = rw (← is-next) is-new
+abbrev goingOn : OpenMessage → Core → Ring → Held
+goingOn message core ring = record { core = withMessage (Open message) core; ring = ring }
+
+pub went-on : (core new : Core) (ring : Ring) (message next : OpenMessage) (stage : Stage)
+    (second : Second) (taken : ℕ)
+    → next ≡ further stage second taken message → new ≡ withMessage (Open next) core
+    → record { core = new; ring = ring } ≡ goingOn (further stage second taken message) core ring
+went-on core new ring message next stage second taken is-next is-new = rw (is-new, is-next)
 
 -- ---- a word
 
@@ -79,19 +83,21 @@ module _ (deed : WordDeed) (format : Format) (message : OpenMessage) (word : Wor
   unfolding deedDone
   word-rested is = rw is
 
-  pub word-went-on : (stage : Stage) (second : Second) (taken : ℕ) (new : Core)
+  pub word-went-on : (stage : Stage) (second : Second) (taken : ℕ) (held : Held)
       → deed ≡ word-deeds.GoOn stage second taken
-      → new ≡ withMessage (Open (further stage second taken message)) core
-      → card new (queue places ring) ram ≡ deedDone deed format message word before
+      → held ≡ goingOn (further stage second taken message) core ring
+      → card (held .core) (queue places (held .ring)) ram
+      ≡ deedDone deed format message word before
   unfolding deedDone
-  word-went-on stage second taken new is is-new = rw (is, is-new)
+  word-went-on stage second taken held is is-held = rw (is, is-held)
 
-  pub word-stored : (taken : ℕ) (stored : List ℕ) (new : Core) → deed ≡ word-deeds.Store taken
+  pub word-stored : (taken : ℕ) (stored : List ℕ) (held : Held) → deed ≡ word-deeds.Store taken
       → stored ≡ withCell ram (message .block) (message .taken) (word .value)
-      → new ≡ withMessage (Open (further Data (message .second) taken message)) core
-      → card new (queue places ring) stored ≡ deedDone deed format message word before
+      → held ≡ goingOn (further Data (message .second) taken message) core ring
+      → card (held .core) (queue places (held .ring)) stored
+      ≡ deedDone deed format message word before
   unfolding deedDone
-  word-stored taken stored new is is-stored is-new = rw (is, is-stored, is-new)
+  word-stored taken stored held is is-stored is-held = rw (is, is-stored, is-held)
 
   pub word-faulted : (code : ℕ) (new : Card) → deed ≡ word-deeds.Fault code
       → new ≡ closedBy (endings.Fault code) format (word .time) message before
@@ -184,13 +190,13 @@ module _ (deed : SilenceDeed) (format : Format) (message : OpenMessage) (time : 
   unfolding silenceBy
   silence-rested is = rw is
 
-  pub status-awaited : (new : Core) → deed ≡ silence-deeds.AwaitStatus
-      → new
-      ≡ withMessage (Open (further AwaitingStatus (message .second) (message .taken) message)) core
-      → shown (card new (queue places ring) ram) (replied Silent)
+  pub status-awaited : (held : Held) → deed ≡ silence-deeds.AwaitStatus
+      → held
+      ≡ goingOn (further AwaitingStatus (message .second) (message .taken) message) core ring
+      → shown (card (held .core) (queue places (held .ring)) ram) (replied Silent)
       ≡ silenceBy deed format message time waiting
   unfolding silenceBy
-  status-awaited new is is-new = rw (is, is-new)
+  status-awaited held is is-held = rw (is, is-held)
 
   pub silence-closed : (ending : Ending) (reply : Reply) (new : Card)
       → deed ≡ silence-deeds.Close ending

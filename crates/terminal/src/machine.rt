@@ -110,12 +110,24 @@ fn silence_deed(act: SilenceAct) -> SilenceDeed
 
 impl Core {
     // The open message goes on.
-    fn go_on(self, message: OpenMessage, stage: Stage, second: Second, taken: u16) -> Core
-        ensures { λ core. ⌜ core
-            ≡ withMessage (Open (further stage second taken message)) self ⌝ }
+    fn go_on(
+        self,
+        ring: Ring,
+        message: OpenMessage,
+        stage: Stage,
+        second: Second,
+        taken: u16,
+    ) -> Held
+        ensures { λ held. ⌜ held ≡ record {
+          core = withMessage (Open (further stage second taken message)) self;
+          ring = ring;
+        } ⌝ }
     {
         let next = message.further(stage, second, taken);
-        self.with_message(Message::Open(next))
+        Held {
+            core: self.with_message(Message::Open(next)),
+            ring: ring,
+        }
     }
 
     // What the rules decided of a word is done to the open message.
@@ -139,17 +151,13 @@ impl Core {
                 core: self,
                 ring: ring,
             },
-            WordDeed::GoOn(stage, second, taken) => Held {
-                core: self.go_on(message, stage, second, taken),
-                ring: ring,
-            },
+            WordDeed::GoOn(stage, second, taken) => {
+                self.go_on(ring, message, stage, second, taken)
+            }
             WordDeed::Store(taken) => {
                 memory::write_cell(ram, Block(message.block), Cell(message.taken), word.value);
                 let second = message.second;
-                Held {
-                    core: self.go_on(message, Stage::Data, second, taken),
-                    ring: ring,
-                }
+                self.go_on(ring, message, Stage::Data, second, taken)
             }
             WordDeed::Fault(code) => {
                 let ending = Ending::Fault(code);
@@ -165,30 +173,26 @@ impl Core {
             ≡ wordStep word
             (card self (queue (now (places .entry)) ring) (now (ram .entry))) .card ⌝ }
     {
-        let message = self.message;
-        match message {
-            Message::Idle => {
-                let own = judge::is_own(self.station, self.flags, word);
-                Met {
-                    held: Held {
-                        core: self,
-                        ring: ring,
-                    },
-                    opens: own,
-                }
-            }
-            Message::Open(held) => {
-                let kind = kind::kind_of(held.command);
-                let format = format::format_by(kind, held.command);
-                let act = judge::on_word(self.station, self.flags, format, held, word);
-                let opens = opens_by(act);
-                let deed = word_deed(act, held);
-                let left = self.word_done(deed, ring, places, ram, format, held, word);
-                Met {
-                    held: left,
-                    opens: opens,
-                }
-            }
+        let held = self.message;
+        let Message::Open(message) = held else {
+            let own = judge::is_own(self.station, self.flags, word);
+            return Met {
+                held: Held {
+                    core: self,
+                    ring: ring,
+                },
+                opens: own,
+            };
+        };
+        let kind = kind::kind_of(message.command);
+        let format = format::format_by(kind, message.command);
+        let act = judge::on_word(self.station, self.flags, format, message, word);
+        let opens = opens_by(act);
+        let deed = word_deed(act, message);
+        let left = self.word_done(deed, ring, places, ram, format, message, word);
+        Met {
+            held: left,
+            opens: opens,
         }
     }
 
@@ -240,12 +244,9 @@ impl Core {
             },
             SilenceDeed::AwaitStatus => {
                 let second = message.second;
-                let core = self.go_on(message, Stage::AwaitingStatus, second, message.taken);
+                let held = self.go_on(ring, message, Stage::AwaitingStatus, second, message.taken);
                 Heard {
-                    held: Held {
-                        core: core,
-                        ring: ring,
-                    },
+                    held: held,
                     reply: Reply::Silent,
                 }
             }
@@ -275,21 +276,19 @@ impl Core {
             ≡ seen (silenceStep line time
             (card self (queue (now (places .entry)) ring) (now (ram .entry)))) ⌝ }
     {
-        let message = self.message;
-        match message {
-            Message::Idle => Heard {
+        let held = self.message;
+        let Message::Open(message) = held else {
+            return Heard {
                 held: Held {
                     core: self,
                     ring: ring,
                 },
                 reply: Reply::Silent,
-            },
-            Message::Open(held) => {
-                let kind = kind::kind_of(held.command);
-                let format = format::format_by(kind, held.command);
-                let deed = silence_deed(judge::on_silence(format, held, line));
-                self.silence_done(deed, ring, places, ram, format, held, time)
-            }
-        }
+            };
+        };
+        let kind = kind::kind_of(message.command);
+        let format = format::format_by(kind, message.command);
+        let deed = silence_deed(judge::on_silence(format, message, line));
+        self.silence_done(deed, ring, places, ram, format, message, time)
     }
 }

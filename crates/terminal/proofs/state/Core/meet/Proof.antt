@@ -5,14 +5,17 @@ use Rattle.terminal.proofs.StepLaws.{word-meeting}
 use Rattle.terminal.proofs.state.Core.meet.Statement.{statement}
 use Rattle.terminal.proofs.state.Core.meet.Tie as tie
 
+enum-known-held : tie.Need-enum-known-held
+enum-known-held c = search needs
+
 enum-told : tie.Need-enum-told
 enum-told c = search needs
 
 is-own-requires : tie.Need-is-own-requires
 is-own-requires c κs = search needs
 
-enum-known-message : tie.Need-enum-known-message
-enum-known-message c = search needs
+returns : tie.Need-returns
+returns c = search (needs, word-meeting) depth 9
 
 kind-of-requires : tie.Need-kind-of-requires
 kind-of-requires c κs = search needs
@@ -32,9 +35,6 @@ word-deed-requires c κs = search needs
 word-done-requires : tie.Need-word-done-requires
 word-done-requires c κs = search needs
 
-returns : tie.Need-returns
-returns c = search (needs, word-meeting) depth 9
-
 same-length : tie.Need-same-length
 same-length c = search needs
 
@@ -45,15 +45,15 @@ pub meet-spec : {M : Type 1} → statement M
 meet-spec =
     tie.close
     (tie.spec
+    enum-known-held
     enum-told
     is-own-requires
-    enum-known-message
+    returns
     kind-of-requires
     format-by-requires
     on-word-requires
     opens-by-requires
     word-deed-requires
     word-done-requires
-    returns
     same-length
     returns-2)

@@ -5,11 +5,14 @@ use Rattle.terminal.proofs.StepLaws.{silence-meeting}
 use Rattle.terminal.proofs.state.Core.silence.Statement.{statement}
 use Rattle.terminal.proofs.state.Core.silence.Tie as tie
 
+enum-known-held : tie.Need-enum-known-held
+enum-known-held c = search needs
+
 enum-told : tie.Need-enum-told
 enum-told c = search needs
 
-enum-known-message : tie.Need-enum-known-message
-enum-known-message c = search needs
+returns : tie.Need-returns
+returns c = search (needs, silence-meeting) depth 9
 
 kind-of-requires : tie.Need-kind-of-requires
 kind-of-requires c κs = search needs
@@ -26,9 +29,6 @@ silence-deed-requires c κs = search needs
 silence-done-requires : tie.Need-silence-done-requires
 silence-done-requires c κs = search needs
 
-returns : tie.Need-returns
-returns c = search (needs, silence-meeting) depth 9
-
 same-length : tie.Need-same-length
 same-length c = search needs
 
@@ -39,13 +39,13 @@ pub silence-spec : {M : Type 1} → statement M
 silence-spec =
     tie.close
     (tie.spec
+    enum-known-held
     enum-told
-    enum-known-message
+    returns
     kind-of-requires
     format-by-requires
     on-silence-requires
     silence-deed-requires
     silence-done-requires
-    returns
     same-length
     returns-2)
