@@ -5,7 +5,9 @@ use mathlib.Core.List.{List}
 use Prim.Native.Nat.{ℕ}
 use lib.Dec.{eqb}
 use borrow.Author.Tests.{eq-eqb, ne-eqb, not-true, not-false}
+use Rattle.bus.specs.declared.kind.Kind.{Kind}
 use Rattle.bus.specs.Command.{isBroadcast}
+use Rattle.bus.specs.Kind.{kindOf}
 use Rattle.bus.specs.Status.{withError}
 use Rattle.card.specs.Memory.{withService, withLink}
 use Rattle.card.specs.StateWord.{stateWord}
@@ -18,9 +20,9 @@ use Rattle.terminal.specs.declared.closing.Ending.{Ending}
 use Rattle.terminal.specs.declared.closing.Ending.the-variants.{Sound, Fault}
 use Rattle.terminal.specs.declared.state.Shut.{Shut}
 use Rattle.terminal.specs.declared.state.Core.{Core}
-use Rattle.terminal.specs.declared.state.Reply.{Reply}
 use Rattle.terminal.specs.declared.state.Reply.the-variants.{Silent, Status, Words, Last}
 use Rattle.message.specs.Message.{hasSecond}
+use Rattle.message.specs.Format.{formatBy, formatOf}
 use Rattle.terminal.specs.State.{Card, card, withStatus, withSwitches, withMessage}
 use Rattle.terminal.specs.Closing.{
   unlessBusy,
@@ -40,10 +42,9 @@ use Rattle.terminal.specs.Closing.{
 use Rattle.terminal.specs.Ending.{
   codeOf,
   movedWords,
-  endingWords,
+  endingState,
   endingCore,
   closedBy,
-  replyBy,
 }
 
 -- ---- the state word
@@ -131,14 +132,18 @@ pub moved-by : (ending known : Ending) (format : Format) (given : Bool) (taken w
     → words ≡ movedWords ending format given taken
 moved-by ending known format given taken words is same = rw is same
 
-pub ending-words-are : (ending : Ending) (format : Format) (core : Core) (message : OpenMessage)
-    (given : Bool) (moved words : ℕ) → given ≡ replies core message
+pub ending-state-is : (ending : Ending) (format : Format) (core : Core) (message : OpenMessage)
+    (code : ℕ) (given : Bool) (moved words state : ℕ)
+    → code ≡ codeOf ending
+    → given ≡ replies core message
     → moved ≡ movedWords ending format given (message .taken)
     → words ≡ unlessBusy format message moved
-    → words ≡ endingWords ending format message core
-unfolding endingWords
-ending-words-are ending format core message given moved words is-given is-moved is-words =
-    rw (← is-given, ← is-moved) is-words
+    → state ≡ stateOf code words message
+    → state ≡ endingState ending format message core
+unfolding endingState
+ending-state-is ending format core message code given moved words state is-code is-given is-moved
+    is-words is-state =
+    rw (← is-code, ← is-given, ← is-moved, ← is-words) is-state
 
 -- ---- shut lines and inhibit
 
@@ -171,32 +176,28 @@ module _ (ending : Ending) (format : Format) (message : OpenMessage) (old new : 
 
 pub ruleset cores = (core-at-end, core-at-fault)
 
-pub reply-by-ending : (ending known : Ending) (format : Format) (message : OpenMessage)
-    (core : Core) (reply : Reply) → ending ≡ known → reply ≡ replyBy known format message core
-    → reply ≡ replyBy ending format message core
-reply-by-ending ending known format message core reply is same = rw is same
-
 closed-by : (ending : Ending) (format : Format) (time : ℕ) (message : OpenMessage) (core : Core)
     (queue : Queue) (ram : List ℕ)
-    → closing format (stateOf (codeOf ending) (endingWords ending format message core) message)
-    time message (card (endingCore ending format message core) queue ram)
+    → closing format (endingState ending format message core) time message
+    (card (endingCore ending format message core) queue ram)
     ≡ closedBy ending format time message (card core queue ram)
-unfolding closedBy faulted ended endingWords endWords
+unfolding closedBy faulted ended endingState endWords
 closed-by Sound format time message core queue ram = refl
 closed-by (Fault code) format time message core queue ram = refl
 
-pub close-is : (ending : Ending) (format : Format) (time : ℕ) (message : OpenMessage)
-    (old core idle : Core) (queue joined : Queue) (ram left : List ℕ) (words code state : ℕ)
-    → words ≡ endingWords ending format message old
-    → code ≡ codeOf ending
-    → state ≡ stateOf code words message
+pub close-is : (ending : Ending) (time : ℕ) (message : OpenMessage) (old core idle : Core)
+    (queue joined : Queue) (ram left : List ℕ) (kind : Kind) (format : Format) (state : ℕ)
+    → kind ≡ kindOf (message .command)
+    → format ≡ formatBy kind (message .command)
+    → state ≡ endingState ending format message old
     → left ≡ closedRam format state time message ram
     → joined ≡ closedQueue format message queue
     → core ≡ endingCore ending format message old
     → idle ≡ withMessage Idle core
-    → card idle joined left ≡ closedBy ending format time message (card old queue ram)
+    → card idle joined left
+    ≡ closedBy ending (formatOf (message .command)) time message (card old queue ram)
 unfolding closing
-close-is ending format time message old core idle queue joined ram left words code state is-words
-    is-code is-state is-left is-joined is-core is-idle =
-    rw (is-idle, is-core, is-joined, is-left, is-state, is-code, is-words)
+close-is ending time message old core idle queue joined ram left kind format state is-kind
+    is-format is-state is-left is-joined is-core is-idle =
+    rw (← is-kind, ← is-format, is-idle, is-core, is-joined, is-left, is-state)
     (closed-by ending format time message old queue ram)

@@ -36,8 +36,8 @@ use Rattle.terminal.proofs.state.Core.with_message.Kinds as with-messag
 use Rattle.terminal.proofs.state.Core.with_message.Reads as with-message-reads
 use Rattle.terminal.proofs.state.Core.open.Kinds as core-open-kinds
 use Rattle.terminal.proofs.state.Core.open.Reads as core-open-reads
-use Rattle.terminal.proofs.state.Core.reply_by.Kinds as core-reply-kinds
-use Rattle.terminal.proofs.state.Core.reply_by.Reads as core-reply-reads
+use Rattle.terminal.proofs.state.Core.reply.Kinds as core-reply-kinds
+use Rattle.terminal.proofs.state.Core.reply.Reads as core-reply-reads
 use Rattle.terminal.proofs.state.Core.close.Kinds as core-close-kinds
 use Rattle.terminal.proofs.state.Core.close.Reads as core-close-reads
 use Rattle.terminal.proofs.state.Core.word.Kinds as core-word-kinds

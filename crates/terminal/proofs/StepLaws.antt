@@ -33,22 +33,27 @@ use Rattle.terminal.specs.declared.state.Held.{Held}
 use Rattle.terminal.specs.declared.state.Reply.{Reply}
 use Rattle.terminal.specs.declared.state.Reply.the-variants.{Silent}
 use Rattle.message.specs.Message.{further}
-use Rattle.message.specs.Format.{formatBy}
+use Rattle.message.specs.Format.{formatBy, formatOf}
 use Rattle.message.specs.Words.{ownCommand, onWord}
 use Rattle.message.specs.Silence.{onSilence}
 use Rattle.terminal.specs.State.{Card, card, withMessage}
 use Rattle.terminal.specs.Opening.{openedAt, opening}
-use Rattle.terminal.specs.Ending.{closedBy, replyBy}
+use Rattle.terminal.specs.Ending.{closedBy}
 use Rattle.terminal.specs.Event.{Shown, shown, seen, replied, opens, quietly}
 use Rattle.terminal.specs.WordStep.{wordDone, wordMet, wordStep}
 use Rattle.terminal.specs.SilenceStep.{silenceDone, silenceMet, silenceStep}
 use Rattle.terminal.specs.Deed.{
+  actOnMessage,
+  actOn,
   wordDeed,
+  wordDeedDone,
+  doneToMessage,
+  doneBy,
   opensBy,
-  deedDone,
   openedIf,
   silenceDeed,
-  silenceBy,
+  silenceDeedDone,
+  replyTo,
 }
 
 -- ---- an act's deed
@@ -74,149 +79,176 @@ went-on core new ring message next stage second taken is-next is-new = rw (is-ne
 
 -- ---- a word
 
-module _ (deed : WordDeed) (format : Format) (message : OpenMessage) (word : Word)
+module _ (act : WordAct) (deed : WordDeed) (message : OpenMessage) (word : Word)
     (core : Core) (places : List ℕ) (ring : Ring) (ram : List ℕ) where
   abbrev before : Card
   before = card core (queue places ring) ram
 
-  pub word-rested : deed ≡ word-deeds.Rest → before ≡ deedDone deed format message word before
-  unfolding deedDone
-  word-rested is = rw is
+  module _ (is : core .message ≡ Open message) (is-deed : deed ≡ wordDeed act message) where
+    -- what is done goes by the message that is open
+    done-by : (new : Card) → new ≡ wordDeedDone deed message word before → new ≡ doneBy act word before
+    unfolding doneBy
+    done-by new is-new =
+        rw (← is-deed) (is-new) ∙ sym (ap (λ (met : Message). doneToMessage met act word before) is)
 
-  pub word-went-on : (stage : Stage) (second : Second) (taken : ℕ) (held : Held)
-      → deed ≡ word-deeds.GoOn stage second taken
-      → held ≡ goingOn (further stage second taken message) core ring
-      → card (held .core) (queue places (held .ring)) ram
-      ≡ deedDone deed format message word before
-  unfolding deedDone
-  word-went-on stage second taken held is is-held = rw (is, is-held)
+    pub word-rested : deed ≡ word-deeds.Rest → before ≡ doneBy act word before
+    unfolding wordDeedDone
+    word-rested rests = done-by before (rw rests)
 
-  pub word-stored : (taken : ℕ) (stored : List ℕ) (held : Held) → deed ≡ word-deeds.Store taken
-      → stored ≡ withCell ram (message .block) (message .taken) (word .value)
-      → held ≡ goingOn (further Data (message .second) taken message) core ring
-      → card (held .core) (queue places (held .ring)) stored
-      ≡ deedDone deed format message word before
-  unfolding deedDone
-  word-stored taken stored held is is-stored is-held = rw (is, is-stored, is-held)
+    pub word-went-on : (stage : Stage) (second : Second) (taken : ℕ) (held : Held)
+        → deed ≡ word-deeds.GoOn stage second taken
+        → held ≡ goingOn (further stage second taken message) core ring
+        → card (held .core) (queue places (held .ring)) ram ≡ doneBy act word before
+    unfolding wordDeedDone
+    word-went-on stage second taken held goes is-held = done-by _ (rw (goes, is-held))
 
-  pub word-faulted : (code : ℕ) (new : Card) → deed ≡ word-deeds.Fault code
-      → new ≡ closedBy (endings.Fault code) format (word .time) message before
-      → new ≡ deedDone deed format message word before
-  unfolding deedDone closedBy
-  word-faulted code new is is-new = rw is is-new
+    pub word-stored : (taken : ℕ) (stored : List ℕ) (held : Held) → deed ≡ word-deeds.Store taken
+        → stored ≡ withCell ram (message .block) (message .taken) (word .value)
+        → held ≡ goingOn (further Data (message .second) taken message) core ring
+        → card (held .core) (queue places (held .ring)) stored ≡ doneBy act word before
+    unfolding wordDeedDone
+    word-stored taken stored held stores is-stored is-held =
+        done-by _ (rw (stores, is-stored, is-held))
 
-pub ruleset word-acting = (word-rested, word-went-on, word-stored, word-faulted)
+    pub word-faulted : (code : ℕ) (new : Card) → deed ≡ word-deeds.Fault code
+        → new
+        ≡ closedBy (endings.Fault code) (formatOf (message .command)) (word .time) message before
+        → new ≡ doneBy act word before
+    unfolding wordDeedDone closedBy
+    word-faulted code new faults is-new = done-by new (rw faults is-new)
 
--- the deed of an act, and then the opening, come to what the act asks
-deeds-of-words : (act : WordAct) (format : Format) (message : OpenMessage) (word : Word)
-    (old : Card)
-    → openedIf (opensBy act) word (deedDone (wordDeed act message) format message word old)
-    ≡ wordDone act format message word old .card
-unfolding deedDone wordDone
-deeds-of-words word-acts.Ignore format message word old = refl
-deeds-of-words (word-acts.Store taken) format message word old = refl
-deeds-of-words (word-acts.Check taken) format message word old = refl
-deeds-of-words (word-acts.TakeSecond value) format message word old = refl
-deeds-of-words word-acts.TakeStatus format message word old = refl
-deeds-of-words (word-acts.Fault code) format message word old = refl
-deeds-of-words word-acts.Supersede format message word old = refl
-deeds-of-words word-acts.Drop format message word old = refl
+pub idle-left : (act : WordAct) (word : Word) (core : Core) (places : List ℕ) (ring : Ring)
+    (ram : List ℕ) → core .message ≡ Idle
+    → card core (queue places ring) ram ≡ doneBy act word (card core (queue places ring) ram)
+unfolding doneBy
+idle-left act word core places ring ram is =
+    sym (ap (λ (met : Message). doneToMessage met act word (card core (queue places ring) ram)) is)
 
-module _ (word : Word) (core : Core) (places : List ℕ) (ring : Ring) (ram : List ℕ) where
-  abbrev held-before : Card
-  held-before = card core (queue places ring) ram
+pub ruleset word-acting = (idle-left, word-rested, word-went-on, word-stored, word-faulted)
 
-  -- the step goes by the message that is open, or none
-  word-step-by : (message : Message) → core .message ≡ message
-      → wordMet message word held-before .card ≡ wordStep word held-before .card
-  unfolding wordStep
-  word-step-by message is = sym (ap (λ (met : Message). wordMet met word held-before .card) is)
+-- ---- the act of a word
 
-  pub idle-met : (own : Bool) → core .message ≡ Idle
-      → own ≡ ownCommand (core .station) (core .flags) word
-      → openedIf own word held-before ≡ wordStep word held-before .card
-  idle-met own idle is-own = rw (← word-step-by Idle idle, ← is-own) (go own)
-    where
-      go : (test : Bool)
-          → openedIf test word held-before
-          ≡ cond test (opens word held-before) (quietly held-before) .card
-      go true = refl
-      go false = refl
+module _ (word : Word) (core : Core) where
+  act-by : (message : Message) (act : WordAct) → core .message ≡ message
+      → act ≡ actOnMessage message word core → act ≡ actOn word core
+  unfolding actOn
+  act-by message act is is-act =
+      is-act ∙ sym (ap (λ (met : Message). actOnMessage met word core) is)
 
-  pub open-met : (message : OpenMessage) (kind : Kind) (format : Format) (act : WordAct)
-      (opened : Bool) (deed : WordDeed) (new : Card)
+  module _ (own : Bool) (idle : core .message ≡ Idle)
+      (is-own : own ≡ ownCommand (core .station) (core .flags) word) where
+    pub own-opens : own ≡ true → word-acts.Drop ≡ actOn word core
+    own-opens holds = act-by Idle word-acts.Drop idle (rw (← is-own, holds))
+
+    pub other-ignored : own ≡ false → word-acts.Ignore ≡ actOn word core
+    other-ignored fails = act-by Idle word-acts.Ignore idle (rw (← is-own, fails))
+
+  pub open-judged : (message : OpenMessage) (kind : Kind) (format : Format) (act : WordAct)
       → core .message ≡ Open message
       → kind ≡ kindOf (message .command) → format ≡ formatBy kind (message .command)
       → act ≡ onWord (core .station) (core .flags) format message word
-      → opened ≡ opensBy act
-      → deed ≡ wordDeed act message
-      → new ≡ deedDone deed format message word held-before
-      → openedIf opened word new ≡ wordStep word held-before .card
-  open-met message kind format act opened deed new is is-kind is-format is-act is-opened is-deed
-      is-new =
-      rw (
-        ← word-step-by (Open message) is,
-        ← is-kind,
-        ← is-format,
-        ← is-act,
-        is-opened,
-        is-new,
-        is-deed,
-      ) (deeds-of-words act format message word held-before)
+      → act ≡ actOn word core
+  open-judged message kind format act is is-kind is-format is-act =
+      act-by (Open message) act is (rw (← is-kind, ← is-format) is-act)
 
-pub ruleset word-meeting = (idle-met, open-met)
+pub ruleset word-judging = (own-opens, other-ignored, open-judged)
 
-module _ (opened : Bool) (word : Word) (places : List ℕ) (held : Held) (ram : List ℕ) (new : Card)
-    (is : openedIf opened word (card (held .core) (queue places (held .ring)) ram) ≡ new) where
-  pub word-left : not opened ≡ true → card (held .core) (queue places (held .ring)) ram ≡ new
-  word-left none = rw (not-true opened none) at is
+-- ---- the deed of an act, and then the opening, come to what the act asks
+
+deeds-of-words : (act : WordAct) (message : OpenMessage) (word : Word) (old : Card)
+    → openedIf (opensBy act) word (wordDeedDone (wordDeed act message) message word old)
+    ≡ wordDone act (formatOf (message .command)) message word old .card
+unfolding wordDeedDone wordDone
+deeds-of-words word-acts.Ignore message word old = refl
+deeds-of-words (word-acts.Store taken) message word old = refl
+deeds-of-words (word-acts.Check taken) message word old = refl
+deeds-of-words (word-acts.TakeSecond value) message word old = refl
+deeds-of-words word-acts.TakeStatus message word old = refl
+deeds-of-words (word-acts.Fault code) message word old = refl
+deeds-of-words word-acts.Supersede message word old = refl
+deeds-of-words word-acts.Drop message word old = refl
+
+word-step-met : (message : Message) (word : Word) (old : Card)
+    → openedIf (opensBy (actOnMessage message word (old .core))) word
+    (doneToMessage message (actOnMessage message word (old .core)) word old)
+    ≡ wordMet message word old .card
+word-step-met Idle word old = go (ownCommand (old .core .station) (old .core .flags) word)
+  where
+    go : (own : Bool)
+        → openedIf (opensBy (cond own word-acts.Drop word-acts.Ignore)) word old
+        ≡ cond own (opens word old) (quietly old) .card
+    go true = refl
+    go false = refl
+word-step-met (Open message) word old =
+    deeds-of-words (actOnMessage (Open message) word (old .core)) message word old
+
+word-step-is : (word : Word) (old : Card)
+    → openedIf (opensBy (actOn word (old .core))) word (doneBy (actOn word (old .core)) word old)
+    ≡ wordStep word old .card
+unfolding actOn doneBy wordStep
+word-step-is word old = word-step-met (old .core .message) word old
+
+module _ (act : WordAct) (opened : Bool) (word : Word) (old : Card) (held : Held)
+    (places ram : List ℕ)
+    (is-act : act ≡ actOn word (old .core)) (is-opened : opened ≡ opensBy act)
+    (is-held : card (held .core) (queue places (held .ring)) ram ≡ doneBy act word old) where
+  step-so-far : openedIf opened word (card (held .core) (queue places (held .ring)) ram)
+      ≡ wordStep word old .card
+  step-so-far = rw (is-held, is-opened, is-act) (word-step-is word old)
+
+  pub word-left : not opened ≡ true
+      → card (held .core) (queue places (held .ring)) ram ≡ wordStep word old .card
+  word-left none = rw (not-true opened none) at step-so-far
 
   pub word-opened : (core : Core) → not opened ≡ false → core ≡ openedAt word (held .core) ram
-      → card core (queue places (held .ring)) ram ≡ new
+      → card core (queue places (held .ring)) ram ≡ wordStep word old .card
   unfolding opening
-  word-opened core some is-core = rw is-core (rw (not-false opened some) at is)
+  word-opened core some is-core = rw is-core (rw (not-false opened some) at step-so-far)
 
 pub ruleset word-opening = (word-left, word-opened)
 
 -- ---- a silence
 
-module _ (deed : SilenceDeed) (format : Format) (message : OpenMessage) (time : ℕ)
+module _ (deed : SilenceDeed) (message : OpenMessage) (time : ℕ)
     (core : Core) (places : List ℕ) (ring : Ring) (ram : List ℕ) where
   abbrev waiting : Card
   waiting = card core (queue places ring) ram
 
   pub silence-rested : deed ≡ silence-deeds.Rest
-      → shown waiting (replied Silent) ≡ silenceBy deed format message time waiting
-  unfolding silenceBy
+      → waiting ≡ silenceDeedDone deed message time waiting
+  unfolding silenceDeedDone
   silence-rested is = rw is
 
   pub status-awaited : (held : Held) → deed ≡ silence-deeds.AwaitStatus
       → held
       ≡ goingOn (further AwaitingStatus (message .second) (message .taken) message) core ring
-      → shown (card (held .core) (queue places (held .ring)) ram) (replied Silent)
-      ≡ silenceBy deed format message time waiting
-  unfolding silenceBy
+      → card (held .core) (queue places (held .ring)) ram
+      ≡ silenceDeedDone deed message time waiting
+  unfolding silenceDeedDone
   status-awaited held is is-held = rw (is, is-held)
 
-  pub silence-closed : (ending : Ending) (reply : Reply) (new : Card)
-      → deed ≡ silence-deeds.Close ending
-      → reply ≡ replyBy ending format message core
-      → new ≡ closedBy ending format time message waiting
-      → shown new (replied reply) ≡ silenceBy deed format message time waiting
-  unfolding silenceBy
-  silence-closed ending reply new is is-reply is-new = rw (is, is-reply, is-new)
+  pub silence-closed : (ending : Ending) (new : Card) → deed ≡ silence-deeds.Close ending
+      → new ≡ closedBy ending (formatOf (message .command)) time message waiting
+      → new ≡ silenceDeedDone deed message time waiting
+  unfolding silenceDeedDone
+  silence-closed ending new is is-new = rw is is-new
 
 pub ruleset silence-acting = (silence-rested, status-awaited, silence-closed)
 
-deeds-of-silences : (act : SilenceAct) (format : Format) (message : OpenMessage) (time : ℕ)
-    (old : Card)
-    → silenceBy (silenceDeed act) format message time old
-    ≡ seen (silenceDone act format message time old)
-unfolding silenceBy closedBy silenceDone
-deeds-of-silences silence-acts.Ignore format message time old = refl
-deeds-of-silences silence-acts.AwaitStatus format message time old = refl
-deeds-of-silences (silence-acts.Fault code) format message time old = refl
-deeds-of-silences silence-acts.End format message time old = refl
+pub reply-of : (act known : SilenceAct) (format : Format) (message : OpenMessage) (core : Core)
+    (reply : Reply) → act ≡ known → reply ≡ replyTo known format message core
+    → reply ≡ replyTo act format message core
+reply-of act known format message core reply is same = rw is same
+
+deeds-of-silences : (act : SilenceAct) (message : OpenMessage) (time : ℕ) (old : Card)
+    → shown (silenceDeedDone (silenceDeed act) message time old)
+    (replied (replyTo act (formatOf (message .command)) message (old .core)))
+    ≡ seen (silenceDone act (formatOf (message .command)) message time old)
+unfolding silenceDeedDone closedBy silenceDone
+deeds-of-silences silence-acts.Ignore message time old = refl
+deeds-of-silences silence-acts.AwaitStatus message time old = refl
+deeds-of-silences (silence-acts.Fault code) message time old = refl
+deeds-of-silences silence-acts.End message time old = refl
 
 module _ (line : Bool) (time : ℕ) (core : Core) (places : List ℕ) (ring : Ring) (ram : List ℕ) where
   abbrev silent-before : Card
@@ -234,20 +266,17 @@ module _ (line : Bool) (time : ℕ) (core : Core) (places : List ℕ) (ring : Ri
   idle-silent idle = silence-step-by Idle idle
 
   pub open-silent : (message : OpenMessage) (kind : Kind) (format : Format) (act : SilenceAct)
-      (deed : SilenceDeed) (new : Shown) → core .message ≡ Open message
+      (reply : Reply) (deed : SilenceDeed) (new : Card) → core .message ≡ Open message
       → kind ≡ kindOf (message .command) → format ≡ formatBy kind (message .command)
       → act ≡ onSilence format message line
+      → reply ≡ replyTo act format message core
       → deed ≡ silenceDeed act
-      → new ≡ silenceBy deed format message time silent-before
-      → new ≡ seen (silenceStep line time silent-before)
-  open-silent message kind format act deed new is is-kind is-format is-act is-deed is-new =
-      rw (
-        ← silence-step-by (Open message) is,
-        ← is-kind,
-        ← is-format,
-        ← is-act,
-        ← deeds-of-silences act format message time silent-before,
-        ← is-deed,
-      ) is-new
+      → new ≡ silenceDeedDone deed message time silent-before
+      → shown new (replied reply) ≡ seen (silenceStep line time silent-before)
+  open-silent message kind format act reply deed new is is-kind is-format is-act is-reply is-deed
+      is-new =
+      rw (is-new, is-deed, is-reply, is-act, is-format, is-kind)
+      (deeds-of-silences (onSilence (formatOf (message .command)) message line) message time
+      silent-before) ∙ silence-step-by (Open message) is
 
 pub ruleset silence-meeting = (idle-silent, open-silent)

@@ -16,22 +16,36 @@ use Rattle.message.specs.declared.state.Stage.the-variants.{
 }
 use Rattle.message.specs.declared.state.Second.the-variants.{Command}
 use Rattle.message.specs.declared.state.OpenMessage.{OpenMessage}
-use Rattle.message.specs.declared.state.Message.the-variants.{Open}
+use Rattle.message.specs.declared.state.Message.{Message}
+use Rattle.message.specs.declared.state.Message.the-variants.{Idle, Open}
 use Rattle.message.specs.declared.state.Word.{Word}
 use Rattle.message.specs.Message.{further}
+use Rattle.message.specs.Format.{formatOf}
+use Rattle.message.specs.Words.{ownCommand, onWord}
 use Rattle.terminal.specs.declared.closing.Ending.the-variants as endings
 use Rattle.terminal.specs.declared.machine.WordDeed.{WordDeed}
 use Rattle.terminal.specs.declared.machine.WordDeed.the-variants as word-deeds
 use Rattle.terminal.specs.declared.machine.SilenceDeed.{SilenceDeed}
 use Rattle.terminal.specs.declared.machine.SilenceDeed.the-variants as silence-deeds
+use Rattle.terminal.specs.declared.state.Core.{Core}
+use Rattle.terminal.specs.declared.state.Reply.{Reply}
 use Rattle.terminal.specs.declared.state.Reply.the-variants.{Silent}
 use Rattle.terminal.specs.State.{Card, card, withMessage}
 use Rattle.terminal.specs.Opening.{opening}
-use Rattle.terminal.specs.Closing.{faulted}
-use Rattle.terminal.specs.Event.{Shown, shown, replied}
-use Rattle.terminal.specs.Ending.{closedBy, replyBy}
+use Rattle.terminal.specs.Closing.{faulted, replyOf}
+use Rattle.terminal.specs.Ending.{closedBy}
 
 -- ---- a word
+
+-- with nothing open a word is judged as one that drops what was open, or is ignored
+abbrev pub actOnMessage : Message → Word → Core → WordAct
+actOnMessage Idle word core =
+    cond (ownCommand (core .station) (core .flags) word) word-acts.Drop word-acts.Ignore
+actOnMessage (Open message) word core =
+    onWord (core .station) (core .flags) (formatOf (message .command)) message word
+
+unfoldable pub actOn : Word → Core → WordAct
+actOn word core = actOnMessage (core .message) word core
 
 abbrev pub wordDeed : WordAct → OpenMessage → WordDeed
 wordDeed word-acts.Ignore message = word-deeds.Rest
@@ -54,17 +68,24 @@ opensBy (word-acts.Fault code) = false
 opensBy word-acts.Supersede = true
 opensBy word-acts.Drop = true
 
-unfoldable pub deedDone : WordDeed → Format → OpenMessage → Word → Card → Card
-deedDone word-deeds.Rest format message word old = old
-deedDone (word-deeds.GoOn stage second taken) format message word old =
+unfoldable pub wordDeedDone : WordDeed → OpenMessage → Word → Card → Card
+wordDeedDone word-deeds.Rest message word old = old
+wordDeedDone (word-deeds.GoOn stage second taken) message word old =
     card (withMessage (Open (further stage second taken message)) (old .core))
     (old .queue) (old .ram)
-deedDone (word-deeds.Store taken) format message word old =
+wordDeedDone (word-deeds.Store taken) message word old =
     card (withMessage (Open (further Data (message .second) taken message)) (old .core))
     (old .queue)
     (withCell (old .ram) (message .block) (message .taken) (word .value))
-deedDone (word-deeds.Fault code) format message word old =
-    faulted format code (word .time) message old
+wordDeedDone (word-deeds.Fault code) message word old =
+    faulted (formatOf (message .command)) code (word .time) message old
+
+abbrev pub doneToMessage : Message → WordAct → Word → Card → Card
+doneToMessage Idle act word old = old
+doneToMessage (Open message) act word old = wordDeedDone (wordDeed act message) message word old
+
+unfoldable pub doneBy : WordAct → Word → Card → Card
+doneBy act word old = doneToMessage (old .core .message) act word old
 
 -- then the word may open a message
 abbrev pub openedIf : Bool → Word → Card → Card
@@ -78,15 +99,19 @@ silenceDeed silence-acts.AwaitStatus = silence-deeds.AwaitStatus
 silenceDeed (silence-acts.Fault code) = silence-deeds.Close (endings.Fault code)
 silenceDeed silence-acts.End = silence-deeds.Close endings.Sound
 
-unfoldable pub silenceBy : SilenceDeed → Format → OpenMessage → ℕ → Card → Shown
-silenceBy silence-deeds.Rest format message time old = shown old (replied Silent)
-silenceBy silence-deeds.AwaitStatus format message time old =
-    shown
-    (card
+unfoldable pub silenceDeedDone : SilenceDeed → OpenMessage → ℕ → Card → Card
+silenceDeedDone silence-deeds.Rest message time old = old
+silenceDeedDone silence-deeds.AwaitStatus message time old =
+    card
     (withMessage (Open (further AwaitingStatus (message .second) (message .taken) message))
     (old .core))
-    (old .queue) (old .ram))
-    (replied Silent)
-silenceBy (silence-deeds.Close ending) format message time old =
-    shown (closedBy ending format time message old)
-    (replied (replyBy ending format message (old .core)))
+    (old .queue) (old .ram)
+silenceDeedDone (silence-deeds.Close ending) message time old =
+    closedBy ending (formatOf (message .command)) time message old
+
+-- only a sound end is replied to
+abbrev pub replyTo : SilenceAct → Format → OpenMessage → Core → Reply
+replyTo silence-acts.Ignore format message core = Silent
+replyTo silence-acts.AwaitStatus format message core = Silent
+replyTo (silence-acts.Fault code) format message core = Silent
+replyTo silence-acts.End format message core = replyOf format core message

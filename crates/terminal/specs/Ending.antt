@@ -1,5 +1,5 @@
 -- How a message closes, in one for fault and sound end: the cut that the code makes. What it comes
--- to is said by `Closing`, which `closedBy` and `replyBy` cite. Definitions only. Assumes nothing.
+-- to is said by `Closing`, which `closedBy` cites. Definitions only. Assumes nothing.
 use mathlib.Core.Bool.{Bool, cond}
 use Prim.Native.Nat.{ℕ}
 use lib.Dec.{eqb}
@@ -9,14 +9,12 @@ use Rattle.message.specs.declared.state.OpenMessage.{OpenMessage}
 use Rattle.terminal.specs.declared.closing.Ending.{Ending}
 use Rattle.terminal.specs.declared.closing.Ending.the-variants.{Sound, Fault}
 use Rattle.terminal.specs.declared.state.Core.{Core}
-use Rattle.terminal.specs.declared.state.Reply.{Reply}
-use Rattle.terminal.specs.declared.state.Reply.the-variants.{Silent}
 use Rattle.terminal.specs.State.{Card, withStatus}
 use Rattle.terminal.specs.Closing.{
   unlessBusy,
+  stateOf,
   faulted,
   replies,
-  replyOf,
   switched,
   ended,
 }
@@ -32,10 +30,11 @@ movedWords Sound format given taken =
     cond (eqb (format .takes) 0) (cond given (format .sends) 0) taken
 movedWords (Fault code) format given taken = taken
 
--- the words of the state word
-unfoldable pub endingWords : Ending → Format → OpenMessage → Core → ℕ
-endingWords ending format message core =
-    unlessBusy format message (movedWords ending format (replies core message) (message .taken))
+unfoldable pub endingState : Ending → Format → OpenMessage → Core → ℕ
+endingState ending format message core =
+    stateOf (codeOf ending)
+    (unlessBusy format message (movedWords ending format (replies core message) (message .taken)))
+    message
 
 -- a fault sets message error; at the sound end codes 4 to 8 act
 abbrev pub endingCore : Ending → Format → OpenMessage → Core → Core
@@ -47,8 +46,3 @@ endingCore (Fault code) format message core = withStatus (withError (core .statu
 unfoldable pub closedBy : Ending → Format → ℕ → OpenMessage → Card → Card
 closedBy Sound format time message old = ended format time message old
 closedBy (Fault code) format time message old = faulted format code time message old
-
--- a fault closes silently
-abbrev pub replyBy : Ending → Format → OpenMessage → Core → Reply
-replyBy Sound format message core = replyOf format core message
-replyBy (Fault code) format message core = Silent

@@ -2,6 +2,7 @@
 ghost use mathlib.Core.Path.{_≡_};
 ghost use mathlib.Core.Bool.{cond, true, false};
 ghost use Rattle.queue.specs.Queue.{queue};
+ghost use Rattle.message.specs.Format.{formatOf};
 ghost use Rattle.terminal.specs.State.{card, withStatus, withSwitches, withMessage};
 ghost use Rattle.terminal.specs.Closing.{
   unlessBusy,
@@ -17,22 +18,23 @@ ghost use Rattle.terminal.specs.Closing.{
 ghost use Rattle.terminal.specs.Ending.{
   codeOf,
   movedWords,
-  endingWords,
+  endingState,
   endingCore,
   closedBy,
-  replyBy,
 };
 use crate::state::Core;
 use crate::state::Held;
 use crate::state::Reply;
 use crate::state::Shut;
 use bus::command;
+use bus::kind;
 use bus::status;
 use card::memory;
 use card::place::Block;
 use card::place::Cell;
 use card::state::State;
 use card::time;
+use message::format;
 use message::format::Format;
 use message::state;
 use message::state::Message;
@@ -143,7 +145,7 @@ impl Core {
     }
 
     // The sound end's reply: status, then words sent.
-    fn reply(self, format: Format, message: OpenMessage) -> Reply
+    pub fn reply(self, format: Format, message: OpenMessage) -> Reply
         ensures { λ reply. ⌜ reply ≡ replyOf format self message ⌝ }
     {
         let given = self.replies(message);
@@ -168,16 +170,6 @@ impl Core {
         }
     }
 
-    // A fault closes silently.
-    pub fn reply_by(self, ending: Ending, format: Format, message: OpenMessage) -> Reply
-        ensures { λ reply. ⌜ reply ≡ replyBy ending format message self ⌝ }
-    {
-        match ending {
-            Ending::Sound => self.reply(format, message),
-            Ending::Fault(_) => Reply::Silent,
-        }
-    }
-
     // What codes 4 to 8 do to shut lines and inhibit.
     fn switch(mut self, code: u16, line: bool) -> Core
         ensures { λ core. ⌜ core ≡ switched code line self ⌝ }
@@ -189,13 +181,15 @@ impl Core {
         self
     }
 
-    // The words of the state word: those stored, or held by the reply given.
-    fn ending_words(self, ending: Ending, format: Format, message: OpenMessage) -> u16
-        ensures { λ words. ⌜ words ≡ endingWords ending format message self ⌝ }
+    // The state word, with the words stored or held by the reply given.
+    fn ending_state(self, ending: Ending, format: Format, message: OpenMessage) -> u16
+        ensures { λ state. ⌜ state ≡ endingState ending format message self ⌝ }
     {
+        let code = code_of(ending);
         let given = self.replies(message);
         let moved = moved_words(ending, format, given, message.taken);
-        unless_busy(format, message, moved)
+        let words = unless_busy(format, message, moved);
+        state_of(code, words, message)
     }
 
     // A fault sets message error; at the sound end codes 4 to 8 act.
@@ -215,17 +209,17 @@ impl Core {
         ring: Ring,
         places: &mut [u16; 256],
         ram: &mut [u16],
-        format: Format,
         time: u32,
         message: OpenMessage,
     ) -> Held
         ensures { λ held. ⌜ card (held .core)
             (queue (now (places .exit)) (held .ring)) (now (ram .exit))
-            ≡ closedBy ending format time message
+            ≡ closedBy ending (formatOf (message .command)) time message
             (card self (queue (now (places .entry)) ring) (now (ram .entry))) ⌝ }
     {
-        let words = self.ending_words(ending, format, message);
-        let state = state_of(code_of(ending), words, message);
+        let kind = kind::kind_of(message.command);
+        let format = format::format_by(kind, message.command);
+        let state = self.ending_state(ending, format, message);
         close_ram(ram, format, state, time, message);
         let joined = close_queue(ring, places, format, message);
         let core = self.ending_core(ending, format, message);

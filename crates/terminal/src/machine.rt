@@ -9,12 +9,13 @@ ghost use Rattle.terminal.specs.Event.{shown, seen, replied};
 ghost use Rattle.terminal.specs.WordStep.{wordStep};
 ghost use Rattle.terminal.specs.SilenceStep.{silenceStep};
 ghost use Rattle.terminal.specs.Deed.{
+  actOn,
   wordDeed,
+  doneBy,
   opensBy,
-  openedIf,
-  deedDone,
   silenceDeed,
-  silenceBy,
+  silenceDeedDone,
+  replyTo,
 };
 use crate::closing::Ending;
 use crate::state::Core;
@@ -53,12 +54,6 @@ pub enum SilenceDeed {
     Rest,
     AwaitStatus,
     Close(Ending),
-}
-
-// What is held before a word opens a message, and whether it does.
-pub struct Met {
-    pub held: Held,
-    pub opens: bool,
 }
 
 // The acts of a word, told by what they do: all faults close in one place.
@@ -130,22 +125,44 @@ impl Core {
         }
     }
 
-    // What the rules decided of a word is done to the open message.
+    // What a word is to do. With nothing open, any own command opens.
+    fn act_on(self, word: Word) -> WordAct
+        ensures { λ act. ⌜ act ≡ actOn word self ⌝ }
+    {
+        let held = self.message;
+        let Message::Open(message) = held else {
+            if judge::is_own(self.station, self.flags, word) {
+                return WordAct::Drop;
+            }
+            return WordAct::Ignore;
+        };
+        let kind = kind::kind_of(message.command);
+        let format = format::format_by(kind, message.command);
+        judge::on_word(self.station, self.flags, format, message, word)
+    }
+
+    // What a word does to the open message.
     fn word_done(
         self,
-        deed: WordDeed,
+        act: WordAct,
         ring: Ring,
         places: &mut [u16; 256],
         ram: &mut [u16],
-        format: Format,
-        message: OpenMessage,
         word: Word,
     ) -> Held
         ensures { λ held. ⌜ card (held .core)
             (queue (now (places .exit)) (held .ring)) (now (ram .exit))
-            ≡ deedDone deed format message word
+            ≡ doneBy act word
             (card self (queue (now (places .entry)) ring) (now (ram .entry))) ⌝ }
     {
+        let held = self.message;
+        let Message::Open(message) = held else {
+            return Held {
+                core: self,
+                ring: ring,
+            };
+        };
+        let deed = word_deed(act, message);
         match deed {
             WordDeed::Rest => Held {
                 core: self,
@@ -161,51 +178,21 @@ impl Core {
             }
             WordDeed::Fault(code) => {
                 let ending = Ending::Fault(code);
-                self.close(ending, ring, places, ram, format, word.time, message)
+                self.close(ending, ring, places, ram, word.time, message)
             }
         }
     }
 
-    // What a word does before it opens a message. With nothing open, any own command opens.
-    fn meet(self, ring: Ring, places: &mut [u16; 256], ram: &mut [u16], word: Word) -> Met
-        ensures { λ met. ⌜ openedIf (met .opens) word (card (met .held .core)
-            (queue (now (places .exit)) (met .held .ring)) (now (ram .exit)))
-            ≡ wordStep word
-            (card self (queue (now (places .entry)) ring) (now (ram .entry))) .card ⌝ }
-    {
-        let held = self.message;
-        let Message::Open(message) = held else {
-            let own = judge::is_own(self.station, self.flags, word);
-            return Met {
-                held: Held {
-                    core: self,
-                    ring: ring,
-                },
-                opens: own,
-            };
-        };
-        let kind = kind::kind_of(message.command);
-        let format = format::format_by(kind, message.command);
-        let act = judge::on_word(self.station, self.flags, format, message, word);
-        let opens = opens_by(act);
-        let deed = word_deed(act, message);
-        let left = self.word_done(deed, ring, places, ram, format, message, word);
-        Met {
-            held: left,
-            opens: opens,
-        }
-    }
-
-    // A word from the bus.
+    // A word from the bus: what it does to the open message, and then what it opens.
     pub fn word(self, ring: Ring, places: &mut [u16; 256], ram: &mut [u16], word: Word) -> Held
         ensures { λ held. ⌜ card (held .core)
             (queue (now (places .exit)) (held .ring)) (now (ram .exit))
             ≡ wordStep word
             (card self (queue (now (places .entry)) ring) (now (ram .entry))) .card ⌝ }
     {
-        let met = self.meet(ring, places, ram, word);
-        let held = met.held;
-        let opens = met.opens;
+        let act = self.act_on(word);
+        let opens = opens_by(act);
+        let held = self.word_done(act, ring, places, ram, word);
         if !opens {
             return held;
         }
@@ -217,47 +204,43 @@ impl Core {
         }
     }
 
-    // What a silence decided is done.
+    // Only a sound end is replied to.
+    fn reply_to(self, act: SilenceAct, format: Format, message: OpenMessage) -> Reply
+        ensures { λ reply. ⌜ reply ≡ replyTo act format message self ⌝ }
+    {
+        match act {
+            SilenceAct::Ignore => Reply::Silent,
+            SilenceAct::AwaitStatus => Reply::Silent,
+            SilenceAct::Fault(_) => Reply::Silent,
+            SilenceAct::End => self.reply(format, message),
+        }
+    }
+
+    // What a silence does to the open message.
     fn silence_done(
         self,
         deed: SilenceDeed,
         ring: Ring,
         places: &mut [u16; 256],
         ram: &mut [u16],
-        format: Format,
         message: OpenMessage,
         time: u32,
-    ) -> Heard
-        ensures { λ heard. ⌜ shown (card (heard .held .core)
-            (queue (now (places .exit)) (heard .held .ring)) (now (ram .exit)))
-            (replied (heard .reply))
-            ≡ silenceBy deed format message time
+    ) -> Held
+        ensures { λ held. ⌜ card (held .core)
+            (queue (now (places .exit)) (held .ring)) (now (ram .exit))
+            ≡ silenceDeedDone deed message time
             (card self (queue (now (places .entry)) ring) (now (ram .entry))) ⌝ }
     {
         match deed {
-            SilenceDeed::Rest => Heard {
-                held: Held {
-                    core: self,
-                    ring: ring,
-                },
-                reply: Reply::Silent,
+            SilenceDeed::Rest => Held {
+                core: self,
+                ring: ring,
             },
             SilenceDeed::AwaitStatus => {
                 let second = message.second;
-                let held = self.go_on(ring, message, Stage::AwaitingStatus, second, message.taken);
-                Heard {
-                    held: held,
-                    reply: Reply::Silent,
-                }
+                self.go_on(ring, message, Stage::AwaitingStatus, second, message.taken)
             }
-            SilenceDeed::Close(ending) => {
-                let reply = self.reply_by(ending, format, message);
-                let held = self.close(ending, ring, places, ram, format, time, message);
-                Heard {
-                    held: held,
-                    reply: reply,
-                }
-            }
+            SilenceDeed::Close(ending) => { self.close(ending, ring, places, ram, time, message) }
         }
     }
 
@@ -288,7 +271,12 @@ impl Core {
         };
         let kind = kind::kind_of(message.command);
         let format = format::format_by(kind, message.command);
-        let deed = silence_deed(judge::on_silence(format, message, line));
-        self.silence_done(deed, ring, places, ram, format, message, time)
+        let act = judge::on_silence(format, message, line);
+        let reply = self.reply_to(act, format, message);
+        let deed = silence_deed(act);
+        Heard {
+            held: self.silence_done(deed, ring, places, ram, message, time),
+            reply: reply,
+        }
     }
 }

@@ -5,14 +5,14 @@ use Rattle.terminal.proofs.ClosingLaws.{close-is}
 use Rattle.terminal.proofs.state.Core.close.Statement.{statement}
 use Rattle.terminal.proofs.state.Core.close.Tie as tie
 
-ending-words-requires : tie.Need-ending-words-requires
-ending-words-requires c κs = search needs
+kind-of-requires : tie.Need-kind-of-requires
+kind-of-requires c κs = search needs
 
-code-of-requires : tie.Need-code-of-requires
-code-of-requires c κs = search needs
+format-by-requires : tie.Need-format-by-requires
+format-by-requires c κs = search needs
 
-state-of-requires : tie.Need-state-of-requires
-state-of-requires c κs = search needs
+ending-state-requires : tie.Need-ending-state-requires
+ending-state-requires c κs = search needs
 
 close-ram-requires : tie.Need-close-ram-requires
 close-ram-requires c κs = search needs
@@ -36,9 +36,9 @@ pub close-spec : {M : Type 1} → statement M
 close-spec =
     tie.close
     (tie.spec
-    ending-words-requires
-    code-of-requires
-    state-of-requires
+    kind-of-requires
+    format-by-requires
+    ending-state-requires
     close-ram-requires
     close-queue-requires
     ending-core-requires

@@ -23,6 +23,9 @@ format-by-requires c κs = search needs
 on-silence-requires : tie.Need-on-silence-requires
 on-silence-requires c κs = search needs
 
+reply-to-requires : tie.Need-reply-to-requires
+reply-to-requires c κs = search needs
+
 silence-deed-requires : tie.Need-silence-deed-requires
 silence-deed-requires c κs = search needs
 
@@ -45,6 +48,7 @@ silence-spec =
     kind-of-requires
     format-by-requires
     on-silence-requires
+    reply-to-requires
     silence-deed-requires
     silence-done-requires
     same-length

@@ -16,9 +16,6 @@ go-on-requires c κs = search needs
 enum-known-deed : tie.Need-enum-known-deed
 enum-known-deed c = search needs
 
-reply-by-requires : tie.Need-reply-by-requires
-reply-by-requires c κs = search needs
-
 close-requires : tie.Need-close-requires
 close-requires c κs = search needs
 
@@ -42,7 +39,6 @@ silence-done-spec =
     enum-told-2
     go-on-requires
     enum-known-deed
-    reply-by-requires
     close-requires
     returns
     returns-2

@@ -5,8 +5,14 @@ use Rattle.terminal.proofs.StepLaws.{word-opening}
 use Rattle.terminal.proofs.state.Core.word.Statement.{statement}
 use Rattle.terminal.proofs.state.Core.word.Tie as tie
 
-meet-requires : tie.Need-meet-requires
-meet-requires c κs = search needs
+act-on-requires : tie.Need-act-on-requires
+act-on-requires c κs = search needs
+
+opens-by-requires : tie.Need-opens-by-requires
+opens-by-requires c κs = search needs
+
+word-done-requires : tie.Need-word-done-requires
+word-done-requires c κs = search needs
 
 same-length : tie.Need-same-length
 same-length c = search needs
@@ -25,4 +31,13 @@ returns-2 c = search (needs, word-opening) depth 9
 
 pub word-spec : {M : Type 1} → statement M
 word-spec =
-    tie.close (tie.spec meet-requires same-length returns open-requires same-length-2 returns-2)
+    tie.close
+    (tie.spec
+    act-on-requires
+    opens-by-requires
+    word-done-requires
+    same-length
+    returns
+    open-requires
+    same-length-2
+    returns-2)
