@@ -3,7 +3,7 @@ use mathlib.Core.Path.{_≡_, refl, sym, ap, _∙_}
 use mathlib.Core.Bool.{Bool, true, false, cond, not, _&&_}
 use mathlib.Core.List.{List, []}
 use Prim.Native.Nat.{ℕ, _+_}
-use lib.Dec.{leb}
+use lib.Dec.{eqb, leb}
 use lib.ListN.{length}
 use lib.Seq.{sets}
 use borrow.Author.Tests.{eq-eqb, ne-eqb, not-true, not-false}
@@ -82,8 +82,11 @@ use Rattle.terminal.specs.Actions.{
   withMemory,
   withoutMemory,
   readQueueAction,
+  noTerminal,
   settled,
+  setupAction,
 }
+use Rattle.terminal.specs.Refusal.{setupRefusal}
 
 -- ---- what is judged
 
@@ -261,9 +264,38 @@ pub setup-is : (station table flags : ℕ) (core : Core) (queue : Queue)
 unfolding terminalAtSetup
 setup-is station table flags core queue is is′ = rw (is, is′)
 
-pub settled-with : (refusal : ℕ) (given same : Terminal)
-    → given ≡ same → settled refusal given ≡ settled refusal same
-settled-with refusal given same is = rw is
+module _ (station table flags : ℕ) where
+  settled-by : setupAction station table flags
+      ≡ cond (eqb (setupRefusal station table flags) 0)
+      (settled 0 (terminalAtSetup station table flags))
+      (settled (setupRefusal station table flags) noTerminal)
+  unfolding setupAction
+  settled-by = go (leb station 30) (leb table 255) (leb flags 63)
+    where
+      go : (one two three : Bool)
+          → cond (not one) (settled 2 noTerminal)
+          (cond (not two) (settled 3 noTerminal)
+          (cond (not three) (settled 8 noTerminal)
+          (settled 0 (terminalAtSetup station table flags))))
+          ≡ cond (eqb (cond (not one) 2 (cond (not two) 3 (cond (not three) 8 0))) 0)
+          (settled 0 (terminalAtSetup station table flags))
+          (settled (cond (not one) 2 (cond (not two) 3 (cond (not three) 8 0))) noTerminal)
+      go false two three = refl
+      go true false three = refl
+      go true true false = refl
+      go true true true = refl
+
+  module _ (number : ℕ) (given : Terminal) (is : number ≡ setupRefusal station table flags) where
+    pub setup-refused : (number ≡ 0 → ⊥) → given ≡ noTerminal
+        → settled number given ≡ setupAction station table flags
+    setup-refused other is-given =
+        rw (settled-by, ← is, ne-eqb number 0 other, is-given)
+
+    pub setup-settled : number ≡ 0 → given ≡ terminalAtSetup station table flags
+        → settled 0 given ≡ setupAction station table flags
+    setup-settled none is-given = rw (settled-by, ← is, eq-eqb number 0 none, is-given)
+
+pub ruleset settling = (setup-refused, setup-settled)
 
 -- ---- the core, by the host's actions
 

@@ -1,16 +1,17 @@
 -- The laws of `specs/Opening.antt`, as the code puts an opening together. Assumes nothing.
 use mathlib.Core.Path.{_≡_, refl, sym, ap, _∙_}
-use mathlib.Core.Bool.{Bool, true, false, cond, not, _&&_}
+use mathlib.Core.Bool.{Bool, true, false, cond, not, _&&_, _||_}
 use mathlib.Core.List.{List}
 use Prim.Native.Nat.{ℕ}
 use borrow.Author.Tests.{not-true, not-false}
+use Rattle.bits.specs.Bit.{hasBit}
 use Rattle.bus.specs.declared.kind.Kind.{Kind}
 use Rattle.bus.specs.declared.status.Status.{Status}
 use Rattle.bus.specs.Kind.{kindOf, isIllegal}
 use Rattle.bus.specs.Status.{statusWord, caughtStatus}
 use Rattle.card.specs.declared.place.Block.{Block}
 use Rattle.card.specs.Memory.{cellAt}
-use Rattle.card.specs.TableWord.{blockOf, wantsQueue}
+use Rattle.card.specs.TableWord.{isBusy, blockOf, wantsQueue}
 use Rattle.message.specs.declared.format.Format.{Format}
 use Rattle.message.specs.declared.state.Stage.{Stage}
 use Rattle.message.specs.declared.state.Stage.the-variants.{Data, Skipping}
@@ -34,6 +35,12 @@ use Rattle.terminal.specs.Opening.{
 module _ (named : Block) (entry : ℕ) (has : Bool) (is : named ≡ record { 0 = blockOf entry }) where
   pub block-named : has ≡ true → named .0 ≡ cond has (blockOf entry) 0
   block-named yes-block = rw (yes-block, is)
+
+-- ---- busy
+
+pub busy-is : (format : Format) (flags entry : ℕ) (marked : Bool) → marked ≡ isBusy entry
+    → (hasBit flags 2 || (format .block && marked)) ≡ busyAt format flags entry
+busy-is format flags entry marked is = rw is
 
 -- ---- the message
 

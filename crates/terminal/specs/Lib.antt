@@ -10,6 +10,7 @@
 --     Deed           acts that do alike, in one, as the code does them
 --     Machine        one step for each event, and a run
 --     Fitness        refusal 4: which states are fit
+--     Refusal        which number refuses, told first, as the code does it
 --     Actions        the actions of the library, refusals included
 pub mod State
 pub mod Opening
@@ -21,4 +22,5 @@ pub mod SilenceStep
 pub mod Deed
 pub mod Machine
 pub mod Fitness
+pub mod Refusal
 pub mod Actions

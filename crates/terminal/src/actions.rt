@@ -6,6 +6,7 @@ ghost use Rattle.terminal.specs.State.{card, terminalAtSetup};
 ghost use Rattle.terminal.specs.Event.{replied, queueWord};
 ghost use Rattle.terminal.specs.WordStep.{wordStep};
 ghost use Rattle.terminal.specs.SilenceStep.{silenceStep};
+ghost use Rattle.terminal.specs.Refusal.{setupRefusal};
 ghost use Rattle.terminal.specs.Actions.{
   after,
   took,
@@ -61,24 +62,37 @@ pub fn word_of(marks: u8, value: u16, time: u32) -> Word
     }
 }
 
+// What setup refuses: 2 station above 30, 3 table block above 255, 8 flags above 63.
+fn setup_refusal(station: u16, table: u16, flags: u16) -> u8
+    ensures { λ number. ⌜ number ≡ setupRefusal station table flags ⌝ }
+{
+    if station > 30 {
+        return 2;
+    }
+    if table > 255 {
+        return 3;
+    }
+    if flags > 63 {
+        return 8;
+    }
+    0
+}
+
 impl Terminal {
     fn take_word(self, ram: &mut [u16], word: Word) -> Terminal
         ensures { λ left. ⌜ card (left .core) (left .queue) (now (ram .exit))
             ≡ wordStep word (card (self .core) (self .queue) (now (ram .entry))) .card ⌝ }
     {
         let core = self.core;
-        let old = self.queue;
-        let mut places = old.places;
-        let ring = old.ring;
-        let held = core.word(ring, &mut places, ram, word);
+        let mut queue = self.queue;
+        let ring = queue.ring;
+        let held = core.word(ring, &mut queue.places, ram, word);
         let left = held.core;
         let next = held.ring;
+        queue.ring = next;
         Terminal {
             core: left,
-            queue: Queue {
-                places: places,
-                ring: next,
-            },
+            queue: queue,
         }
     }
 
@@ -88,23 +102,20 @@ impl Terminal {
             ≡ took (silenceStep line time (card (self .core) (self .queue) (now (ram .entry)))) ⌝ }
     {
         let core = self.core;
-        let old = self.queue;
-        let mut places = old.places;
-        let ring = old.ring;
-        let heard = core.silence(ring, &mut places, ram, line, time);
+        let mut queue = self.queue;
+        let ring = queue.ring;
+        let heard = core.silence(ring, &mut queue.places, ram, line, time);
         let held = heard.held;
         let reply = heard.reply;
         let left = held.core;
         let next = held.ring;
+        queue.ring = next;
         Answered {
             refusal: 0,
             reply: reply,
             terminal: Terminal {
                 core: left,
-                queue: Queue {
-                    places: places,
-                    ring: next,
-                },
+                queue: queue,
             },
         }
     }
@@ -301,21 +312,10 @@ impl Terminal {
     pub fn setup(station: u16, table: u16, flags: u16) -> Done
         ensures { λ done. ⌜ done ≡ setupAction station table flags ⌝ }
     {
-        if station > 30 {
+        let refusal = setup_refusal(station, table, flags);
+        if refusal != 0 {
             return Done {
-                refusal: 2,
-                terminal: Terminal::at_setup(31, 0, 0),
-            };
-        }
-        if table > 255 {
-            return Done {
-                refusal: 3,
-                terminal: Terminal::at_setup(31, 0, 0),
-            };
-        }
-        if flags > 63 {
-            return Done {
-                refusal: 8,
+                refusal: refusal,
                 terminal: Terminal::at_setup(31, 0, 0),
             };
         }

@@ -9,7 +9,7 @@ switched-line-requires c κs = search needs
 
 returns : tie.Need-returns
 unfolding switchedInhibit
-returns c = cc
+returns c = search needs
 
 pub switched-inhibit-spec : {M : Type 1} → statement M
 switched-inhibit-spec = tie.close (tie.spec switched-line-requires returns)
