@@ -96,7 +96,7 @@ impl Terminal {
         }
     }
 
-    fn take_silence(self, ram: &mut [u16], line: bool, time: u32) -> Answered
+    fn take_silence(mut self, ram: &mut [u16], line: bool, time: u32) -> Answered
         ensures { λ left. ⌜ after (left .refusal) (replied (left .reply))
             (card (left .terminal .core) (left .terminal .queue) (now (ram .exit)))
             ≡ took (silenceStep line time (card (self .core) (self .queue) (now (ram .entry)))) ⌝ }
@@ -110,13 +110,12 @@ impl Terminal {
         let left = held.core;
         let next = held.ring;
         queue.ring = next;
+        self.core = left;
+        self.queue = queue;
         Answered {
             refusal: 0,
             reply: reply,
-            terminal: Terminal {
-                core: left,
-                queue: queue,
-            },
+            terminal: self,
         }
     }
 
@@ -212,7 +211,7 @@ impl Terminal {
     }
 
     // The oldest block leaves the queue.
-    pub fn read_queue(self) -> QueueAnswered
+    pub fn read_queue(mut self) -> QueueAnswered
         ensures { λ answer. ⌜ after (answer .refusal) (queueWord (answer .word))
             (alone (answer .terminal)) ≡ readQueueAction (alone self) ⌝ }
     {
@@ -223,22 +222,19 @@ impl Terminal {
                 terminal: self,
             };
         }
-        let core = self.core;
         let old = self.queue;
         let taken = old.read();
         let queue = taken.queue;
+        self.queue = queue;
         QueueAnswered {
             refusal: 0,
             word: taken.word,
-            terminal: Terminal {
-                core: core,
-                queue: queue,
-            },
+            terminal: self,
         }
     }
 
     // The host sets the table block.
-    pub fn move_table(self, table: u16) -> Done
+    pub fn move_table(mut self, table: u16) -> Done
         ensures { λ done. ⌜ after (done .refusal) (replied Silent) (alone (done .terminal))
             ≡ moveTableAction table (alone self) ⌝ }
     {
@@ -255,19 +251,16 @@ impl Terminal {
             };
         }
         let old = self.core;
-        let queue = self.queue;
         let core = old.move_table(table);
+        self.core = core;
         Done {
             refusal: 0,
-            terminal: Terminal {
-                core: core,
-                queue: queue,
-            },
+            terminal: self,
         }
     }
 
     // The host writes the flags.
-    pub fn set_flags(self, flags: u16) -> Done
+    pub fn set_flags(mut self, flags: u16) -> Done
         ensures { λ done. ⌜ after (done .refusal) (replied Silent) (alone (done .terminal))
             ≡ setFlagsAction flags (alone self) ⌝ }
     {
@@ -284,14 +277,11 @@ impl Terminal {
             };
         }
         let old = self.core;
-        let queue = self.queue;
         let core = old.set_flags(flags);
+        self.core = core;
         Done {
             refusal: 0,
-            terminal: Terminal {
-                core: core,
-                queue: queue,
-            },
+            terminal: self,
         }
     }
 
