@@ -1,12 +1,12 @@
 -- The laws of `specs/Actions.antt`, as the code judges and answers. Assumes nothing.
-use mathlib.Core.Path.{_≡_, refl, sym, ap, _∙_}
+use mathlib.Core.Path.{_≡_, refl, ap, _∙_}
 use mathlib.Core.Bool.{Bool, true, false, cond, not, _&&_}
 use mathlib.Core.List.{List, []}
 use Prim.Native.Nat.{ℕ, _+_}
 use lib.Dec.{eqb, leb}
 use lib.ListN.{length}
 use lib.Seq.{sets}
-use borrow.Author.Tests.{eq-eqb, ne-eqb, not-true, not-false}
+use borrow.Author.Tests.{eq-eqb, ne-eqb}
 use Rattle.card.specs.Memory.{cardWords}
 use Rattle.card.specs.Host as host
 use Rattle.queue.specs.declared.QueueRead.{QueueRead}
@@ -45,7 +45,6 @@ use Rattle.terminal.specs.State.{
 }
 use Rattle.message.specs.Message.{movedMessage}
 use Rattle.message.specs.Words.{ownCommand}
-use Rattle.message.specs.Words.{onWord}
 use Rattle.terminal.specs.Event.{
   Event,
   word,

@@ -23,7 +23,7 @@ use Rattle.terminal.specs.declared.state.Core.{Core}
 use Rattle.terminal.specs.declared.state.Reply.the-variants.{Silent, Status, Words, Last}
 use Rattle.message.specs.Message.{hasSecond}
 use Rattle.message.specs.Format.{formatBy, formatOf}
-use Rattle.terminal.specs.State.{Card, card, withStatus, withSwitches, withMessage}
+use Rattle.terminal.specs.State.{card, withStatus, withSwitches, withMessage}
 use Rattle.terminal.specs.Closing.{
   unlessBusy,
   stateOf,

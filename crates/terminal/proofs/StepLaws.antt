@@ -39,7 +39,7 @@ use Rattle.message.specs.Silence.{onSilence}
 use Rattle.terminal.specs.State.{Card, card, withMessage}
 use Rattle.terminal.specs.Opening.{openedAt, opening}
 use Rattle.terminal.specs.Ending.{closedBy}
-use Rattle.terminal.specs.Event.{Shown, shown, seen, replied, opens, quietly}
+use Rattle.terminal.specs.Event.{shown, seen, replied, opens, quietly}
 use Rattle.terminal.specs.WordStep.{wordDone, wordMet, wordStep}
 use Rattle.terminal.specs.SilenceStep.{silenceDone, silenceMet, silenceStep}
 use Rattle.terminal.specs.Deed.{

@@ -1,6 +1,6 @@
--- Which number refuses, told before anything is done: the cut that the code makes. What it comes to is
--- said by `Actions`. Definitions only. Assumes nothing.
-use mathlib.Core.Bool.{Bool, cond, not}
+-- Which number refuses, told before anything is done: the cut that the code makes. What it comes to
+-- is said by `Actions`. Definitions only. Assumes nothing.
+use mathlib.Core.Bool.{cond, not}
 use Prim.Native.Nat.{ℕ}
 use lib.Dec.{leb}
 

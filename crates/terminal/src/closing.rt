@@ -3,7 +3,7 @@ ghost use mathlib.Core.Path.{_≡_};
 ghost use mathlib.Core.Bool.{cond, true, false};
 ghost use Rattle.queue.specs.Queue.{queue};
 ghost use Rattle.message.specs.Format.{formatOf};
-ghost use Rattle.terminal.specs.State.{card, withStatus, withSwitches, withMessage};
+ghost use Rattle.terminal.specs.State.{card, withStatus, withMessage};
 ghost use Rattle.terminal.specs.Closing.{
   unlessBusy,
   stateOf,
