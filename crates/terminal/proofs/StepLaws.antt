@@ -1,5 +1,5 @@
--- The laws of `specs/WordStep.antt`, `specs/SilenceStep.antt` and `specs/Deed.antt`, as the code does
--- what was decided: a law for each deed, and deeds come to what the acts ask. Assumes nothing.
+-- The laws of `specs/WordStep.antt`, `specs/SilenceStep.antt` and `specs/Deed.antt`, as the code
+-- does what was decided: a law for each deed, and deeds come to what the acts ask. Assumes nothing.
 use mathlib.Core.Path.{_≡_, refl, sym, ap, _∙_}
 use mathlib.Core.Bool.{Bool, true, false, cond, not}
 use mathlib.Core.List.{List}
@@ -86,10 +86,11 @@ module _ (act : WordAct) (deed : WordDeed) (message : OpenMessage) (word : Word)
 
   module _ (is : core .message ≡ Open message) (is-deed : deed ≡ wordDeed act message) where
     -- what is done goes by the message that is open
-    done-by : (new : Card) → new ≡ wordDeedDone deed message word before → new ≡ doneBy act word before
+    done-by : (new : Card) → new ≡ wordDeedDone deed message word before
+        → new ≡ doneBy act word before
     unfolding doneBy
     done-by new is-new =
-        rw (← is-deed) (is-new) ∙ sym (ap (λ (met : Message). doneToMessage met act word before) is)
+        rw (← is-deed) is-new ∙ sym (ap (λ (met : Message). doneToMessage met act word before) is)
 
     pub word-rested : deed ≡ word-deeds.Rest → before ≡ doneBy act word before
     unfolding wordDeedDone

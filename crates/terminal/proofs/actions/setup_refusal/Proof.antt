@@ -1,4 +1,5 @@
--- `terminal::actions::setup_refusal` meets its contract, by the cases of its tests. Assumes nothing.
+-- `terminal::actions::setup_refusal` meets its contract, by the cases of its tests. Assumes
+-- nothing.
 use Rattle.rules.proofs.Cases.{cases, turned}
 use Rattle.terminal.proofs.actions.setup_refusal.Statement.{statement}
 use Rattle.terminal.proofs.actions.setup_refusal.Tie as tie

@@ -1,5 +1,5 @@
--- `terminal::Core::act_on` meets its contract: nothing open, or a message that a word meets. Assumes
--- nothing.
+-- `terminal::Core::act_on` meets its contract: nothing open, or a message that a word meets.
+-- Assumes nothing.
 use borrow.Author.Needs.{needs}
 use Rattle.terminal.proofs.StepLaws.{word-judging}
 use Rattle.terminal.proofs.state.Core.act_on.Statement.{statement}

@@ -1,4 +1,5 @@
--- `terminal::Core::go_on` meets its contract: the message is what the call ensures. Assumes nothing.
+-- `terminal::Core::go_on` meets its contract: the message is what the call ensures. Assumes
+-- nothing.
 use borrow.Author.Needs.{needs}
 use Rattle.terminal.proofs.StepLaws.{went-on}
 use Rattle.terminal.proofs.state.Core.go_on.Statement.{statement}
