@@ -9,6 +9,7 @@
 --     FitWord       a word keeps the card fit, whatever it decides
 --     FitSilence    a silence keeps the card fit
 --     FitLaws       a fit state stays fit: setup, one event, and a run
+--     OneBlock      one broken message costs one block
 --     Determined    each public contract allows one outcome alone
 pub mod OpeningLaws
 pub mod ClosingLaws
@@ -20,4 +21,5 @@ pub mod FitChanges
 pub mod FitWord
 pub mod FitSilence
 pub mod FitLaws
+pub mod OneBlock
 pub mod Determined

@@ -9,6 +9,7 @@
 --     SilenceStep    what silence decides is done
 --     Deed           acts that do alike, in one, as the code does them
 --     Machine        one step for each event, and a run
+--     OneBlock       one broken message costs one block: what that says of two runs
 --     Fitness        refusal 4: which states are fit
 --     Refusal        which number refuses, told first, as the code does it
 --     Actions        the actions of the library, refusals included
@@ -21,6 +22,7 @@ pub mod WordStep
 pub mod SilenceStep
 pub mod Deed
 pub mod Machine
+pub mod OneBlock
 pub mod Fitness
 pub mod Refusal
 pub mod Actions

@@ -8,6 +8,7 @@
 --     WindowLaws    a call prints its part, whatever comes behind
 --     EndLaws       a call comes to an end
 --     PieceLaws     any pieces print what the whole prints
+--     OneBlock      one broken message costs one block, over recordings
 pub mod HappenLaws
 pub mod LineLaws
 pub mod TurnLaws
@@ -17,3 +18,4 @@ pub mod PrintedLaws
 pub mod WindowLaws
 pub mod EndLaws
 pub mod PieceLaws
+pub mod OneBlock

@@ -4,3 +4,4 @@ pub mod Run
 pub mod Window
 pub mod Held
 pub mod Pieces
+pub mod OneBlock

@@ -1,0 +1,158 @@
+-- The theorem over recordings at work: document 01's recording beside the same with its second data
+-- word unsound, both followed by the same fields. Assumes nothing.
+use mathlib.Core.Path.{_≡_, refl}
+use mathlib.Core.Bool.{true, false}
+use mathlib.Core.List.{List, [], _∷_, _++_}
+use Prim.Native.Nat.{ℕ}
+use Rattle.terminal.specs.Event.{Event, hostWrite, word}
+use Rattle.recording.specs.Field.{lengthFits, fieldAt}
+use Rattle.recording.specs.Reading.{readAt}
+use Rattle.lines.specs.Lines.{statusLine, queueLine, endLine}
+use Rattle.runs.proofs.Telling.{runs}
+use Rattle.runs.proofs.OneBlock.Unsound.{met, command, sound, unsound, after, all-holds}
+use Rattle.tray.specs.Happening.{setup, event, happeningOf, happened}
+use Rattle.tray.specs.Run.{
+  trayAtStart,
+  lastLine,
+  taking,
+  takingLine,
+  printedOf,
+  printedBy,
+  printedFrom,
+  printed,
+}
+use Rattle.tray.specs.OneBlock.{
+  Accepted,
+  the-end,
+  a-field,
+  events,
+  cardAfter,
+  BrokenRecording,
+  SameRecordings,
+}
+use Rattle.tray.proofs.OneBlock.Theorem.{one-block-recordings}
+
+-- ---- the bytes
+
+-- setup, and the host's two words
+unfoldable before-bytes : List ℕ
+before-bytes =
+    0x01 ∷ 0x00 ∷ 0x03 ∷ 0x05 ∷ 0x01 ∷ 0x00
+    ∷ 0x05 ∷ 0x00 ∷ 0x04 ∷ 0x00 ∷ 0x43 ∷ 0x40 ∷ 0x02
+    ∷ 0x05 ∷ 0x00 ∷ 0x04 ∷ 0x00 ∷ 0xBF ∷ 0x40 ∷ 0x03 ∷ []
+
+-- a word on line A, with the low byte of its time
+unfoldable wordBytes : ℕ → ℕ → ℕ → ℕ → List ℕ
+wordBytes marks high low time =
+    0x02 ∷ 0x00 ∷ 0x07 ∷ marks ∷ high ∷ low ∷ 0x00 ∷ 0x00 ∷ 0x00 ∷ time ∷ []
+
+-- a silence on line A
+unfoldable silenceBytes : ℕ → List ℕ
+silenceBytes time = 0x03 ∷ 0x00 ∷ 0x05 ∷ 0x00 ∷ 0x00 ∷ 0x00 ∷ 0x00 ∷ time ∷ []
+
+unfoldable readBytes : List ℕ
+readBytes = 0x04 ∷ 0x00 ∷ 0x00 ∷ []
+
+unfoldable command-bytes : List ℕ
+command-bytes = wordBytes 0x06 0x28 0x62 0x28
+
+unfoldable sound-bytes : List ℕ
+sound-bytes =
+    wordBytes 0x0C 0x11 0x11 0x3C ++ (wordBytes 0x0C 0x22 0x22 0x50 ++ silenceBytes 0x64)
+
+unfoldable unsound-bytes : List ℕ
+unsound-bytes =
+    wordBytes 0x0C 0x11 0x11 0x3C ++ (wordBytes 0x08 0x22 0x22 0x50 ++ silenceBytes 0x64)
+
+unfoldable after-bytes : List ℕ
+after-bytes =
+    wordBytes 0x06 0x2C 0x02 0x70 ++ (silenceBytes 0x80
+    ++ (wordBytes 0x06 0x28 0x62 0x90 ++ (wordBytes 0x0C 0x33 0x33 0xA0
+    ++ (wordBytes 0x0C 0x44 0x44 0xB0 ++ (silenceBytes 0xC0
+    ++ (wordBytes 0x06 0x2C 0x02 0xD0 ++ (silenceBytes 0xE0
+    ++ (readBytes ++ readBytes))))))))
+
+-- to unfold `bytes` is to unfold these, and what reads them
+unfoldable bytes : ℕ
+unfolding before-bytes wordBytes silenceBytes readBytes command-bytes sound-bytes unsound-bytes
+    after-bytes readAt lengthFits fieldAt happeningOf events
+bytes = 0
+
+-- ---- all that is asked holds
+
+abbrev earlier : List Event
+earlier = hostWrite 0x0043 (0x4002 ∷ []) ∷ hostWrite 0x00BF (0x4003 ∷ []) ∷ []
+
+before-accepted : Accepted false before-bytes (setup 5 1 0 ∷ events earlier)
+unfolding bytes
+before-accepted = a-field refl (a-field refl (a-field refl the-end))
+
+command-accepted : Accepted true command-bytes (event (word command) ∷ [])
+unfolding bytes
+command-accepted = a-field refl the-end
+
+sound-accepted : Accepted true sound-bytes (events sound)
+unfolding bytes
+sound-accepted = a-field refl (a-field refl (a-field refl the-end))
+
+unsound-accepted : Accepted true unsound-bytes (events unsound)
+unfolding bytes
+unsound-accepted = a-field refl (a-field refl (a-field refl the-end))
+
+after-accepted : Accepted true after-bytes (events after)
+unfolding bytes
+after-accepted =
+    a-field refl (a-field refl (a-field refl (a-field refl (a-field refl
+    (a-field refl (a-field refl (a-field refl (a-field refl (a-field refl the-end)))))))))
+
+all-asked-holds : BrokenRecording before-bytes command-bytes sound-bytes unsound-bytes after-bytes
+    5 1 0 earlier command sound unsound after
+unfolding runs met cardAfter
+all-asked-holds =
+    record {
+      before-accepted = before-accepted;
+      command-accepted = command-accepted;
+      one-accepted = sound-accepted;
+      two-accepted = unsound-accepted;
+      after-accepted = after-accepted;
+      broken = all-holds;
+    }
+
+the-recordings-are-the-same : SameRecordings before-bytes command-bytes sound-bytes unsound-bytes
+    after-bytes 5 1 0 earlier command sound unsound after
+the-recordings-are-the-same =
+    one-block-recordings before-bytes command-bytes sound-bytes unsound-bytes after-bytes 5 1 0
+    earlier command sound unsound after all-asked-holds
+
+-- ---- what they print
+
+-- to unfold `run` is to unfold the whole of a tray run
+unfoldable run : ℕ
+unfolding bytes runs happened trayAtStart lastLine taking takingLine printedOf printedBy printedFrom
+    printed
+run = 0
+
+-- the reply to the message, and then what both print
+the-sound-recording-prints :
+    printed (before-bytes ++ (command-bytes ++ (sound-bytes ++ after-bytes)))
+    ≡ statusLine 0x2800 []
+    ++ (statusLine 0x2800 []
+    ++ (statusLine 0x2800 []
+    ++ (statusLine 0x2800 []
+    ++ (queueLine 0x8002
+    ++ (queueLine 0x8003
+    ++ endLine 17)))))
+unfolding run
+the-sound-recording-prints = refl
+
+-- a broken message gets no reply; message error shows in the first status alone
+the-unsound-recording-prints :
+    printed (before-bytes ++ (command-bytes ++ (unsound-bytes ++ after-bytes)))
+    ≡ statusLine 0x2C00 []
+    ++ (statusLine 0x2800 []
+    ++ (statusLine 0x2800 []
+    ++ (queueLine 0x8002
+    ++ (queueLine 0x8003
+    ++ endLine 17))))
+unfolding run
+the-unsound-recording-prints = refl

@@ -1,0 +1,134 @@
+-- What an accepted recording prints: the lines of its events one after the other, and END with the
+-- number of its fields. Assumes nothing.
+use mathlib.Core.Path.{_≡_, refl, sym, ap, _∙_}
+use mathlib.Core.Bool.{Bool, false}
+use mathlib.Core.List.{List, [], _∷_, _++_, append-assoc}
+use Prim.Native.Nat.{ℕ, zero, suc, _+_, _<_}
+use native.Mathlib.Omega.{arith}
+use lib.ListN.{length, drop, length-drop, length-append}
+use Rattle.terminal.specs.State.{Card, card}
+use Rattle.terminal.specs.Event.{Event}
+use Rattle.terminal.specs.Machine.{step, run}
+use Rattle.recording.specs.declared.Reading.{Reading}
+use Rattle.recording.specs.declared.Reading.the-variants.{Taken}
+use Rattle.recording.specs.Reading.{readAt}
+use Rattle.recording.proofs.TakenLaws.{taken-within}
+use Rattle.lines.specs.Lines.{endLine}
+use Rattle.tray.specs.Happening.{Happening, setup, event, happened}
+use Rattle.tray.specs.Run.{
+  Tray,
+  trayAtStart,
+  counted,
+  shownLine,
+  lastLine,
+  taking,
+  takingLine,
+  printedOf,
+  printedBy,
+  printedFrom,
+  printed,
+}
+use Rattle.tray.specs.OneBlock.{
+  Accepted,
+  the-end,
+  a-field,
+  events,
+  cardAfter,
+  lineOf,
+  linesOf,
+  Prints,
+}
+
+-- ---- fields one by one
+
+-- the lines of what the fields tell, and the number of fields taken
+unfoldable toldLines : List Happening → Card → List ℕ
+toldLines [] old = []
+toldLines (told ∷ rest) old =
+    shownLine (happened told old) ++ toldLines rest (happened told old .card)
+
+unfoldable fieldsAfter : ℕ → List Happening → ℕ
+fieldsAfter fields [] = fields
+fieldsAfter fields (told ∷ rest) = fieldsAfter (counted (fields + 1)) rest
+
+printed-by : {begun : Bool} {bytes : List ℕ} {told : List Happening} → Accepted begun bytes told
+    → (most : ℕ) → length bytes < most → (old : Tray) → old .begun ≡ begun
+    → printedBy most old bytes
+    ≡ toldLines told (old .card) ++ endLine (fieldsAfter (old .fields) told)
+unfolding printedBy printedOf lastLine taking takingLine toldLines fieldsAfter readAt
+printed-by the-end zero enough old begun = absurd (omega arith)
+printed-by the-end (suc most) enough old begun = refl
+printed-by (a-field is then) zero enough old begun = absurd (omega arith)
+printed-by {begun = flag} {bytes = bytes}
+    (a-field {field = field} {next = next} {rest = rest} is then) (suc most) enough old begun =
+    let inside = taken-within bytes 0 flag is in
+    let left : length (drop next bytes) < most =
+    omega (arith, length-drop next bytes, inside .moves-on, inside .ends-inside) in
+    let read : readAt bytes 0 (old .begun) ≡ Taken field next =
+    ap (λ (begun : Bool). readAt bytes 0 begun) begun ∙ is in
+    ap (λ (reading : Reading). printedOf reading (printedBy most) old bytes) read
+    ∙ ap (λ (text : List ℕ). takingLine bytes field old ++ text)
+    (printed-by then most left (taking bytes field next old) refl)
+    ∙ sym (append-assoc (takingLine bytes field old)
+    (toldLines rest (taking bytes field next old .card))
+    (endLine (fieldsAfter (counted (old .fields + 1)) rest)))
+
+-- ---- the same over events
+
+-- a count of 64 bits
+fields-counted : (fields : ℕ) (told : List Happening) → fields < 18446744073709551616
+    → fieldsAfter fields told ≡ counted (fields + length told)
+unfolding fieldsAfter
+fields-counted fields [] fits = omega arith
+fields-counted fields (told ∷ rest) fits =
+    fields-counted (counted (fields + 1)) rest (omega arith) ∙ omega arith
+
+length-of-events : (told : List Event) → length (events told) ≡ length told
+unfolding events
+length-of-events [] = refl
+length-of-events (told ∷ more) = ap suc (length-of-events more)
+
+lines-of-events : (told : List Event) (old : Card) → toldLines (events told) old ≡ linesOf told old
+unfolding toldLines events linesOf happened
+lines-of-events [] old = refl
+lines-of-events (told ∷ more) old =
+    ap (λ (text : List ℕ). shownLine (happened (event told) old) ++ text)
+    (lines-of-events more (step told old .card))
+
+lines-of-append : (sooner later : List Event) (old : Card)
+    → linesOf (sooner ++ later) old ≡ linesOf sooner old ++ linesOf later (run sooner old)
+unfolding linesOf run
+lines-of-append [] later old = refl
+lines-of-append (told ∷ sooner) later old =
+    ap (λ (text : List ℕ). lineOf told old ++ text)
+    (lines-of-append sooner later (step told old .card))
+    ∙ sym (append-assoc (lineOf told old) (linesOf sooner (step told old .card))
+    (linesOf later (run sooner (step told old .card))))
+
+pub events-of-append : (sooner later : List Event)
+    → events (sooner ++ later) ≡ events sooner ++ events later
+unfolding events
+events-of-append [] later = refl
+events-of-append (told ∷ sooner) later =
+    ap (λ (rest : List Happening). event told ∷ rest) (events-of-append sooner later)
+
+-- ---- a recording
+
+pub prints : {bytes : List ℕ} (station table flags : ℕ) (sooner later : List Event)
+    → Accepted false bytes (setup station table flags ∷ events (sooner ++ later))
+    → Prints bytes station table flags sooner later
+unfolding printed printedFrom trayAtStart toldLines happened cardAfter run
+prints {bytes} station table flags sooner later accepted =
+    let start = cardAfter station table flags [] in
+    let all = sooner ++ later in
+    let lines : toldLines (events all) start
+    ≡ linesOf sooner start ++ linesOf later (run sooner start) =
+    lines-of-events all start ∙ lines-of-append sooner later start in
+    let told = setup station table flags ∷ events all in
+    let count : fieldsAfter 0 told ≡ counted (1 + length sooner + length later) =
+    fields-counted 0 told (omega arith)
+    ∙ ap counted (omega (arith, length-of-events all, length-append sooner later)) in
+    printed-by accepted (suc (length bytes)) (omega arith) trayAtStart refl
+    ∙ rw (lines, count)
+    (append-assoc (linesOf sooner start) (linesOf later (run sooner start))
+    (endLine (counted (1 + length sooner + length later))))
