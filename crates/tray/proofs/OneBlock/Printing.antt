@@ -3,16 +3,14 @@
 use mathlib.Core.Path.{_≡_, refl, sym, ap, _∙_}
 use mathlib.Core.Bool.{Bool, false}
 use mathlib.Core.List.{List, [], _∷_, _++_, append-assoc}
-use Prim.Native.Nat.{ℕ, zero, suc, _+_, _<_}
+use Prim.Native.Nat.{ℕ, suc, _+_, _<_}
 use native.Mathlib.Omega.{arith}
-use lib.ListN.{length, drop, length-drop, length-append}
+use lib.ListN.{length, length-append}
 use Rattle.terminal.specs.State.{Card, card}
 use Rattle.terminal.specs.Event.{Event}
 use Rattle.terminal.specs.Machine.{step, run}
-use Rattle.recording.specs.declared.Reading.{Reading}
-use Rattle.recording.specs.declared.Reading.the-variants.{Taken}
+use Rattle.recording.specs.declared.Reading.the-variants.{Taken, End}
 use Rattle.recording.specs.Reading.{readAt}
-use Rattle.recording.proofs.TakenLaws.{taken-within}
 use Rattle.lines.specs.Lines.{endLine}
 use Rattle.tray.specs.Happening.{Happening, setup, event, happened}
 use Rattle.tray.specs.Run.{
@@ -24,7 +22,6 @@ use Rattle.tray.specs.Run.{
   taking,
   takingLine,
   printedOf,
-  printedBy,
   printedFrom,
   printed,
 }
@@ -38,6 +35,7 @@ use Rattle.tray.specs.OneBlock.{
   linesOf,
   Prints,
 }
+use Rattle.tray.proofs.PrintedLaws.{printed-by-reading}
 
 -- ---- fields one by one
 
@@ -51,27 +49,20 @@ unfoldable fieldsAfter : ℕ → List Happening → ℕ
 fieldsAfter fields [] = fields
 fieldsAfter fields (told ∷ rest) = fieldsAfter (counted (fields + 1)) rest
 
-printed-by : {begun : Bool} {bytes : List ℕ} {told : List Happening} → Accepted begun bytes told
-    → (most : ℕ) → length bytes < most → (old : Tray) → old .begun ≡ begun
-    → printedBy most old bytes
+printed-from : {begun : Bool} {bytes : List ℕ} {told : List Happening} → Accepted begun bytes told
+    → (old : Tray) → old .begun ≡ begun
+    → printedFrom old bytes
     ≡ toldLines told (old .card) ++ endLine (fieldsAfter (old .fields) told)
-unfolding printedBy printedOf lastLine taking takingLine toldLines fieldsAfter readAt
-printed-by the-end zero enough old begun = absurd (omega arith)
-printed-by the-end (suc most) enough old begun = refl
-printed-by (a-field is then) zero enough old begun = absurd (omega arith)
-printed-by {begun = flag} {bytes = bytes}
-    (a-field {field = field} {next = next} {rest = rest} is then) (suc most) enough old begun =
-    let inside = taken-within bytes 0 flag is in
-    let left : length (drop next bytes) < most =
-    omega (arith, length-drop next bytes, inside .moves-on, inside .ends-inside) in
-    let read : readAt bytes 0 (old .begun) ≡ Taken field next =
-    ap (λ (begun : Bool). readAt bytes 0 begun) begun ∙ is in
-    ap (λ (reading : Reading). printedOf reading (printedBy most) old bytes) read
-    ∙ ap (λ (text : List ℕ). takingLine bytes field old ++ text)
-    (printed-by then most left (taking bytes field next old) refl)
-    ∙ sym (append-assoc (takingLine bytes field old)
-    (toldLines rest (taking bytes field next old .card))
-    (endLine (fieldsAfter (counted (old .fields + 1)) rest)))
+unfolding printedOf lastLine taking takingLine toldLines fieldsAfter readAt
+printed-from {bytes = bytes} the-end old begun = printed-by-reading old bytes End refl
+printed-from {bytes = bytes} (a-field {field = field} {next = next} {rest = rest} is then) old
+    begun =
+    let new : Tray = taking bytes field next old in
+    printed-by-reading old bytes (Taken field next)
+    (ap (λ (flag : Bool). readAt bytes 0 flag) begun ∙ is)
+    ∙ ap (λ (text : List ℕ). takingLine bytes field old ++ text) (printed-from then new refl)
+    ∙ sym (append-assoc (takingLine bytes field old) (toldLines rest (new .card))
+    (endLine (fieldsAfter (new .fields) rest)))
 
 -- ---- the same over events
 
@@ -117,7 +108,7 @@ events-of-append (told ∷ sooner) later =
 pub prints : {bytes : List ℕ} (station table flags : ℕ) (sooner later : List Event)
     → Accepted false bytes (setup station table flags ∷ events (sooner ++ later))
     → Prints bytes station table flags sooner later
-unfolding printed printedFrom trayAtStart toldLines happened cardAfter run
+unfolding printed trayAtStart toldLines happened cardAfter run
 prints {bytes} station table flags sooner later accepted =
     let start = cardAfter station table flags [] in
     let all = sooner ++ later in
@@ -128,7 +119,7 @@ prints {bytes} station table flags sooner later accepted =
     let count : fieldsAfter 0 told ≡ counted (1 + length sooner + length later) =
     fields-counted 0 told (omega arith)
     ∙ ap counted (omega (arith, length-of-events all, length-append sooner later)) in
-    printed-by accepted (suc (length bytes)) (omega arith) trayAtStart refl
+    printed-from accepted trayAtStart refl
     ∙ rw (lines, count)
     (append-assoc (linesOf sooner start) (linesOf later (run sooner start))
     (endLine (counted (1 + length sooner + length later))))
