@@ -34,15 +34,15 @@ pub record Alike (Spent : ℕ → Type 0) (here there : Card) : Type 0 where
   pub cell : (address : ℕ) → Kept Spent address
       → getD (here .ram) address 0 ≡ getD (there .ram) address 0
 
--- how long the second exception lasts: no event has opened a message but for the two commands that
--- keep the remembered status. A command to another station opens nothing
+-- how long the second exception lasts: until a command other than the two that keep the remembered
+-- status opens a message. One to another station opens none
 unfoldable pub stillBefore : Bool → Opened → Bool
 stillBefore before none = before
 stillBefore before keeping = before
 stillBefore before afresh = false
 
 -- every answer is the same; second exception: the message error bit in a reply to "transmit status
--- word" or "transmit last command", as the message that was open has it
+-- word" or "transmit last command", which is the command of the message that was open
 pub data SameAnswer : Bool → Message → Answer → Answer → Type 0 where
   same : {before : Bool} {message : Message} {answer : Answer}
       → SameAnswer before message answer answer
@@ -84,8 +84,8 @@ pub data Calm : List Event → Card → Type 0 where
   a-silence : {card : Card} {line : Bool} {time : ℕ} {events : List Event}
       → Calm events (step (silence line time) card .card) → Calm (silence line time ∷ events) card
 
--- at its end both messages have closed; or the next event is a word that opens another message and
--- stands apart from the word before
+-- at its end both messages have closed; or the next event is a word that is not joined and opens a
+-- message, in the first run at least
 pub data Settled (here there : Card) : List Event → Type 0 where
   closed : {after : List Event}
       → here .core .message ≡ Idle → there .core .message ≡ Idle → Settled here there after
@@ -93,7 +93,7 @@ pub data Settled (here there : Card) : List Event → Type 0 where
       → step (word command) here .opened ≢ none → command .joined ≡ false
       → Settled here there (word command ∷ after)
 
--- from there on no spent block is the table, nor do words sent come from it: asked of one run
+-- from there on no spent block is the table or a source of words sent: asked of the first run alone
 unfoldable pub Spared : (ℕ → Type 0) → List Event → Card → Type 0
 Spared Spent [] card = Unit {0}
 Spared Spent (event ∷ after) card =
@@ -107,8 +107,8 @@ unfoldable pub ThatBlock : Message → ℕ → Type 0
 ThatBlock Idle block = ⊥
 ThatBlock (Open message) block = block ≡ message .block
 
--- the runs have all in common up to a data receive command that opens a message, and go on from the
--- card that it meets with `one` or `two`, and then both with `after`
+-- all that is asked: the runs share what led to `card`, where a data receive command opens a
+-- message; then the one has `one` and the other `two`; and then both go on with `after`
 pub record BrokenMessage (card : Card) (command : Word) (one two after : List Event) : Type 0 where
   pub receives : kindOf (command .value) ≡ Receive
   pub opens : step (word command) card .opened ≢ none

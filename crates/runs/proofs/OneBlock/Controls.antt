@@ -12,6 +12,7 @@ use Rattle.bus.specs.Kind.{kindOf}
 use Rattle.card.specs.Memory.{wordAddress}
 use Rattle.queue.specs.declared.Queue.{Queue}
 use Rattle.message.specs.declared.state.Message.{Message}
+use Rattle.message.specs.declared.state.Message.the-variants.{Idle}
 use Rattle.message.specs.declared.state.Word.{Word}
 use Rattle.terminal.specs.declared.state.Reply.the-variants.{Silent, Status, Words}
 use Rattle.terminal.specs.declared.state.Answer.{Answer}
@@ -42,6 +43,8 @@ use Rattle.runs.proofs.OneBlock.Sparing.{sparedFrom, spared-from}
 use Rattle.runs.proofs.Telling.{
   runs,
   commandA,
+  commandB,
+  silenceB,
   unsoundA,
   joinedA,
   silenceA,
@@ -52,15 +55,14 @@ use Rattle.runs.proofs.Telling.{
   atSetup,
 }
 
--- ---- the claim, by what is asked of the stretches, of their ends and of the events after, and by
--- what is then the same
+-- ---- the claim, by what is asked of the command, of the stretches, of their ends and of what
+-- comes after, and by what is then the same
 
-abbrev Claim : (List Event → Card → Type 0) → (Card → Card → List Event → Type 0)
-    → ((ℕ → Type 0) → List Event → Card → Type 0)
+abbrev Claim : (Word → Card → Type 0) → (List Event → Card → Type 0)
+    → (Card → Card → List Event → Type 0) → ((ℕ → Type 0) → List Event → Card → Type 0)
     → ((ℕ → Type 0) → List Event → Card → Card → Type 0) → Type 0
-Claim Stretch End Tail Same =
-    (old : Card) (command : Word) (one two after : List Event)
-    → kindOf (command .value) ≡ Receive → step (word command) old .opened ≢ none
+Claim Command Stretch End Tail Same =
+    (old : Card) (command : Word) (one two after : List Event) → Command command old
     → Stretch one (step (word command) old .card) → Stretch two (step (word command) old .card)
     → End (run (word command ∷ one) old) (run (word command ∷ two) old) after
     → Tail (ThatBlock (step (word command) old .card .core .message)) after
@@ -68,13 +70,18 @@ Claim Stretch End Tail Same =
     → Same (ThatBlock (step (word command) old .card .core .message)) after
     (run (word command ∷ one) old) (run (word command ∷ two) old)
 
+-- a data receive command that opens a message
+pub record Receives (command : Word) (old : Card) : Type 0 where
+  pub receives : kindOf (command .value) ≡ Receive
+  pub opens : step (word command) old .opened ≢ none
+
 -- with all of it, this is the theorem
-the-theorem : Claim Calm Settled Spared SameAfter
-the-theorem old command one two after receives opens calm-one calm-two settled spared =
+the-theorem : Claim Receives Calm Settled Spared SameAfter
+the-theorem old command one two after opening calm-one calm-two settled spared =
     one-block old command one two after
     (record {
-      receives = receives;
-      opens = opens;
+      receives = opening .receives;
+      opens = opening .opens;
       calm-one = calm-one;
       calm-two = calm-two;
       settled = settled;
@@ -107,6 +114,10 @@ afresh-is-not-none is = let clash : _≡_ {A = ℕ} 0 1 = cc in omega arith
 keeping-is-not-none : keeping ≡ none → ⊥
 keeping-is-not-none is = let clash : _≡_ {A = ℕ} 0 1 = cc in omega arith
 
+tray-command : (receiving sending : ℕ) → Receives command (chains receiving sending)
+unfolding runs chains
+tray-command receiving sending = record { receives = refl; opens = afresh-is-not-none }
+
 -- every cell of another block is kept
 kept-elsewhere : (block address : ℕ) → address / 64 ≢ block
     → Kept (λ spent. spent ≡ block) address
@@ -115,6 +126,35 @@ kept-elsewhere block address other =
       data-cell = λ spent cell is low named. other (omega arith);
       service-cell = λ spent cell is from to named. other (omega arith);
     }
+
+-- a reply where there is none in the other run
+silent-too : {before : Bool} {message : Message} {answer other : Answer}
+    → SameAnswer before message answer other → other ≡ Replied Silent → answer ≡ Replied Silent
+silent-too same is = is
+silent-too (status-but-error asks but) is = cc
+silent-too (last-but-error asks but) is = cc
+
+replied-is-not-silent : {status : ℕ} → Replied (Status status) ≡ Replied Silent → ⊥
+replied-is-not-silent is = let clash : _≡_ {A = ℕ} 0 1 = cc in omega arith
+
+-- ---- less asked of the command
+
+-- any command that opens a message
+abbrev Opens : Word → Card → Type 0
+Opens any old = step (word any) old .opened ≢ none
+
+-- mode code 4 shuts line B at its sound end, and not after a fault
+a-data-receive-is-asked : Claim Opens Calm Settled Spared SameAfter → ⊥
+unfolding runs chains ThatBlock Later sparedFrom
+a-data-receive-is-asked claim =
+    let shuts : Word = wordOf 0x06 0x2C04 0x28 in
+    let after : List Event = commandB 0x2C02 0x70 ∷ silenceB 0x80 ∷ [] in
+    let answers =
+    claim (chains 0x4002 0) shuts (word1 ∷ []) (quiet ∷ []) after afresh-is-not-none
+    (a-word refl nothing) (a-silence nothing) (closed refl refl)
+    (spared-from 0 after (run (word shuts ∷ word1 ∷ []) (chains 0x4002 0)) refl)
+    .later .1 .0 .answer in
+    replied-is-not-silent (silent-too answers refl)
 
 -- ---- less asked of the stretches
 
@@ -126,12 +166,12 @@ data Unopening : List Event → Card → Type 0 where
       → Unopening (event ∷ events) card
 
 -- a host action in one stretch writes a cell
-no-host-action-is-asked : Claim Unopening Settled Spared SameAfter → ⊥
+no-host-action-is-asked : Claim Receives Unopening Settled Spared SameAfter → ⊥
 unfolding runs chains ThatBlock Later sparedFrom
 no-host-action-is-asked claim =
     let differs : _≡_ {A = ℕ} 7 0 =
-    claim (chains 0x4002 0) command (put 64 0 7 ∷ sound) sound (queueRead ∷ []) refl
-    afresh-is-not-none
+    claim (chains 0x4002 0) command (put 64 0 7 ∷ sound) sound (queueRead ∷ [])
+    (tray-command 0x4002 0)
     (an-event refl (an-event refl (an-event refl (an-event refl no-event))))
     (an-event refl (an-event refl (an-event refl no-event)))
     (closed refl refl)
@@ -150,13 +190,13 @@ data OnBus : List Event → Card → Type 0 where
       → OnBus (silence line time ∷ events) card
 
 -- another message in one stretch costs the next block
-no-opening-is-asked : Claim OnBus Settled Spared SameAfter → ⊥
+no-opening-is-asked : Claim Receives OnBus Settled Spared SameAfter → ⊥
 unfolding runs chains ThatBlock Later sparedFrom
 no-opening-is-asked claim =
     let differs : _≡_ {A = ℕ} 0x4300 0 =
     claim (chains 0x4002 0) command
-    (word1 ∷ word2 ∷ quiet ∷ commandA 0x2862 0x70 ∷ silenceA 0x80 ∷ []) sound (queueRead ∷ []) refl
-    afresh-is-not-none
+    (word1 ∷ word2 ∷ quiet ∷ commandA 0x2862 0x70 ∷ silenceA 0x80 ∷ []) sound (queueRead ∷ [])
+    (tray-command 0x4002 0)
     (any-word (any-word (any-silence (any-word (any-silence no-more)))))
     (any-word (any-word (any-silence no-more)))
     (closed refl refl)
@@ -174,11 +214,11 @@ no-opening-is-asked claim =
 data Unsettled (here there : Card) : List Event → Type 0 where
   whatever : {after : List Event} → Unsettled here there after
 
-an-end-is-asked : Claim Calm Unsettled Spared SameAfter → ⊥
+an-end-is-asked : Claim Receives Calm Unsettled Spared SameAfter → ⊥
 unfolding runs chains ThatBlock Later sparedFrom
 an-end-is-asked claim =
     let queues =
-    claim (chains 0x4002 0) command sound (word1 ∷ []) (queueRead ∷ []) refl afresh-is-not-none
+    claim (chains 0x4002 0) command sound (word1 ∷ []) (queueRead ∷ []) (tray-command 0x4002 0)
     (a-word refl (a-word refl (a-silence nothing))) (a-word refl nothing) whatever
     (spared-from 2 (queueRead ∷ []) (run (word command ∷ sound) (chains 0x4002 0)) refl)
     .later .0 .cards .queue in
@@ -187,29 +227,23 @@ an-end-is-asked claim =
 
 -- the next event opens a message, joined or not
 data SettledByAny (here there : Card) : List Event → Type 0 where
+  closed-too : {after : List Event}
+      → here .core .message ≡ Idle → there .core .message ≡ Idle → SettledByAny here there after
   opened-next : {after : List Event} (next : Word) → step (word next) here .opened ≢ none
       → SettledByAny here there (word next ∷ after)
 
-silent-too : {before : Bool} {message : Message} {answer other : Answer}
-    → SameAnswer before message answer other → other ≡ Replied Silent → answer ≡ Replied Silent
-silent-too same is = is
-silent-too (status-but-error asks but) is = cc
-silent-too (last-but-error asks but) is = cc
-
 -- a joined command opens where the message has closed, and breaks the one that is open
-an-unjoined-command-is-asked : Claim Calm SettledByAny Spared SameAfter → ⊥
+an-unjoined-command-is-asked : Claim Receives Calm SettledByAny Spared SameAfter → ⊥
 unfolding runs chains ThatBlock Later sparedFrom
 an-unjoined-command-is-asked claim =
     let after : List Event = joinedA 0x2C02 0x70 ∷ silenceA 0x80 ∷ [] in
     let answers =
-    claim (chains 0x4002 0) command sound (word1 ∷ []) after refl afresh-is-not-none
+    claim (chains 0x4002 0) command sound (word1 ∷ []) after (tray-command 0x4002 0)
     (a-word refl (a-word refl (a-silence nothing))) (a-word refl nothing)
     (opened-next (wordOf 0x0E 0x2C02 0x70) keeping-is-not-none)
     (spared-from 2 after (run (word command ∷ sound) (chains 0x4002 0)) refl)
     .later .1 .0 .answer in
-    let both : Replied (Status 0x2800) ≡ Replied Silent = silent-too answers refl in
-    let clash : _≡_ {A = ℕ} 0 1 = cc in
-    omega arith
+    replied-is-not-silent (silent-too answers refl)
 
 -- ---- less asked of the events after
 
@@ -228,12 +262,12 @@ silent-sends-none status block count is spent =
     omega arith
 
 -- a data word in cell 1 of the table is where the chain of subaddress 1 goes
-no-table-is-asked : Claim Calm Settled NoSource SameAfter → ⊥
+no-table-is-asked : Claim Receives Calm Settled NoSource SameAfter → ⊥
 unfolding runs chains ThatBlock Later NoSource
 no-table-is-asked claim =
     let differs : _≡_ {A = ℕ} 0x4300 0 =
-    claim (chains 0x0001 0) command sound unsound (commandA 0x2821 0x70 ∷ silenceA 0x80 ∷ []) refl
-    afresh-is-not-none
+    claim (chains 0x0001 0) command sound unsound (commandA 0x2821 0x70 ∷ silenceA 0x80 ∷ [])
+    (tray-command 0x0001 0)
     (a-word refl (a-word refl (a-silence nothing))) (a-word refl (a-word refl nothing))
     (closed refl refl) (silent-sends-none, (silent-sends-none, tt))
     .later .1 .0 .cards .cell 2234 (kept-elsewhere 1 2234 (λ is. omega arith)) in
@@ -249,12 +283,12 @@ one-is-not-two : _≡_ {A = ℕ} 1 2 → ⊥
 one-is-not-two is = omega arith
 
 -- the words that were received are sent
-no-source-is-asked : Claim Calm Settled NoTable SameAfter → ⊥
+no-source-is-asked : Claim Receives Calm Settled NoTable SameAfter → ⊥
 unfolding runs chains ThatBlock Later NoTable
 no-source-is-asked claim =
     let words =
     claim (chains 0x4002 0x4002) command sound unsound
-    (commandA 0x2C62 0x70 ∷ silenceA 0x80 ∷ []) refl afresh-is-not-none
+    (commandA 0x2C62 0x70 ∷ silenceA 0x80 ∷ []) (tray-command 0x4002 0x4002)
     (a-word refl (a-word refl (a-silence nothing))) (a-word refl (a-word refl nothing))
     (closed refl refl) (one-is-not-two, (one-is-not-two, tt))
     .later .1 .0 .words 0x2800 2 2 refl in
@@ -270,11 +304,11 @@ SameAnswers Spent (event ∷ after) here there =
     (step event here .answer ≡ step event there .answer)
     × SameAnswers Spent after (step event here .card) (step event there .card)
 
-the-error-bit-is-excepted : Claim Calm Settled Spared SameAnswers → ⊥
+the-error-bit-is-excepted : Claim Receives Calm Settled Spared SameAnswers → ⊥
 unfolding runs chains ThatBlock SameAnswers sparedFrom
 the-error-bit-is-excepted claim =
     let answers : Replied (Status 0x2800) ≡ Replied (Status 0x2C00) =
-    claim (chains 0x4002 0) command sound unsound asked refl afresh-is-not-none
+    claim (chains 0x4002 0) command sound unsound asked (tray-command 0x4002 0)
     (a-word refl (a-word refl (a-silence nothing))) (a-word refl (a-word refl nothing))
     (closed refl refl)
     (spared-from 2 asked (run (word command ∷ sound) (chains 0x4002 0)) refl)
@@ -293,11 +327,11 @@ data-of-two : (block cell : ℕ) → block ≡ 2 → 58 ≤ cell → cell ≤ 61
     → 129 ≢ wordAddress block cell
 data-of-two block cell is from to named = omega arith
 
-data-cells-are-excepted : Claim Calm Settled Spared SameButService → ⊥
+data-cells-are-excepted : Claim Receives Calm Settled Spared SameButService → ⊥
 unfolding runs chains ThatBlock sparedFrom
 data-cells-are-excepted claim =
     let differs : _≡_ {A = ℕ} 0x2222 0 =
-    claim (chains 0x4002 0) command sound unsound asked refl afresh-is-not-none
+    claim (chains 0x4002 0) command sound unsound asked (tray-command 0x4002 0)
     (a-word refl (a-word refl (a-silence nothing))) (a-word refl (a-word refl nothing))
     (closed refl refl)
     (spared-from 2 asked (run (word command ∷ sound) (chains 0x4002 0)) refl)
@@ -314,11 +348,11 @@ SameButData Spent after here there =
 service-of-two : (block cell : ℕ) → block ≡ 2 → cell < 32 → 186 ≢ wordAddress block cell
 service-of-two block cell is low named = omega arith
 
-service-cells-are-excepted : Claim Calm Settled Spared SameButData → ⊥
+service-cells-are-excepted : Claim Receives Calm Settled Spared SameButData → ⊥
 unfolding runs chains ThatBlock sparedFrom
 service-cells-are-excepted claim =
     let differs : _≡_ {A = ℕ} 0x0002 0x4101 =
-    claim (chains 0x4002 0) command sound unsound asked refl afresh-is-not-none
+    claim (chains 0x4002 0) command sound unsound asked (tray-command 0x4002 0)
     (a-word refl (a-word refl (a-silence nothing))) (a-word refl (a-word refl nothing))
     (closed refl refl)
     (spared-from 2 asked (run (word command ∷ sound) (chains 0x4002 0)) refl)
