@@ -2,8 +2,12 @@
 --     Sparing       that a block is spared, by computation
 --     Unsound       all that is asked holds of document 01's run and one with an unsound word
 --     Recordings    the same of their bytes, and what is printed
---     Controls      with one thing less asked, or one exception less, the claim is false
+--     Claim         the claim, by what is asked and what is said
+--     LessAsked     with one thing less asked it is false
+--     MoreSaid      with one exception less it is false
 mod Sparing
 mod Unsound
 mod Recordings
-mod Controls
+mod Claim
+mod LessAsked
+mod MoreSaid

@@ -1,0 +1,105 @@
+-- One broken message costs one block, with one exception less: each such claim is false, by two
+-- runs that the checker computes. Assumes nothing.
+use mathlib.Core.Path.{_≡_, refl}
+use mathlib.Core.Logic.{_≢_}
+use mathlib.Core.List.{List, [], _∷_}
+use Prim.Native.Nat.{ℕ, _≤_, _<_}
+use native.Mathlib.Omega.{arith}
+use lib.ListN.{getD}
+use Rattle.card.specs.Memory.{wordAddress}
+use Rattle.terminal.specs.declared.state.Reply.the-variants.{Status}
+use Rattle.terminal.specs.declared.state.Answer.the-variants.{Replied}
+use Rattle.terminal.specs.State.{Card}
+use Rattle.terminal.specs.Event.{Event, word}
+use Rattle.terminal.specs.Machine.{step, run}
+use Rattle.terminal.specs.OneBlock.{
+  Calm,
+  nothing,
+  a-word,
+  a-silence,
+  Settled,
+  closed,
+  Spared,
+  ThatBlock,
+}
+use Rattle.runs.proofs.OneBlock.Sparing.{sparedFrom, spared-from}
+use Rattle.runs.proofs.Telling.{runs, commandA, silenceA}
+use Rattle.runs.proofs.OneBlock.Claim.{
+  Claim,
+  Receives,
+  command,
+  chains,
+  sound,
+  unsound,
+  tray-command,
+}
+
+-- "transmit status word"
+abbrev asked : List Event
+asked = commandA 0x2C02 0x70 ∷ silenceA 0x80 ∷ []
+
+-- ---- answers
+
+-- every answer, with no exception for the message error bit
+unfoldable SameAnswers : (ℕ → Type 0) → List Event → Card → Card → Type 0
+SameAnswers Spent [] here there = Unit {0}
+SameAnswers Spent (event ∷ after) here there =
+    (step event here .answer ≡ step event there .answer)
+    × SameAnswers Spent after (step event here .card) (step event there .card)
+
+the-message-error-bit-differs : Claim Receives Calm Settled Spared SameAnswers → ⊥
+unfolding runs chains ThatBlock SameAnswers sparedFrom
+the-message-error-bit-differs claim =
+    let answers : Replied (Status 0x2800) ≡ Replied (Status 0x2C00) =
+    claim (chains 0x4002 0) command sound unsound asked (tray-command 0x4002 0)
+    (a-word refl (a-word refl (a-silence nothing))) (a-word refl (a-word refl nothing))
+    (closed refl refl)
+    (spared-from 2 asked (run (word command ∷ sound) (chains 0x4002 0)) refl)
+    .1 .0 in
+    let differs : _≡_ {A = ℕ} 0x2800 0x2C00 = cc in
+    omega arith
+
+-- ---- cells
+
+-- after the events, every cell but the block's service cells
+abbrev SameButService : (ℕ → Type 0) → List Event → Card → Card → Type 0
+SameButService Spent after here there =
+    (address : ℕ)
+    → ((block cell : ℕ) → Spent block → 58 ≤ cell → cell ≤ 61 → address ≢ wordAddress block cell)
+    → getD (run after here .ram) address 0 ≡ getD (run after there .ram) address 0
+
+data-of-two : (block cell : ℕ) → block ≡ 2 → 58 ≤ cell → cell ≤ 61
+    → 129 ≢ wordAddress block cell
+data-of-two block cell is from to named = omega arith
+
+data-cells-differ : Claim Receives Calm Settled Spared SameButService → ⊥
+unfolding runs chains ThatBlock sparedFrom
+data-cells-differ claim =
+    let differs : _≡_ {A = ℕ} 0x2222 0 =
+    claim (chains 0x4002 0) command sound unsound asked (tray-command 0x4002 0)
+    (a-word refl (a-word refl (a-silence nothing))) (a-word refl (a-word refl nothing))
+    (closed refl refl)
+    (spared-from 2 asked (run (word command ∷ sound) (chains 0x4002 0)) refl)
+    129 data-of-two in
+    omega arith
+
+-- after the events, every cell but the block's data cells
+abbrev SameButData : (ℕ → Type 0) → List Event → Card → Card → Type 0
+SameButData Spent after here there =
+    (address : ℕ)
+    → ((block cell : ℕ) → Spent block → cell < 32 → address ≢ wordAddress block cell)
+    → getD (run after here .ram) address 0 ≡ getD (run after there .ram) address 0
+
+service-of-two : (block cell : ℕ) → block ≡ 2 → cell < 32 → 186 ≢ wordAddress block cell
+service-of-two block cell is low named = omega arith
+
+service-cells-differ : Claim Receives Calm Settled Spared SameButData → ⊥
+unfolding runs chains ThatBlock sparedFrom
+service-cells-differ claim =
+    let differs : _≡_ {A = ℕ} 0x0002 0x4101 =
+    claim (chains 0x4002 0) command sound unsound asked (tray-command 0x4002 0)
+    (a-word refl (a-word refl (a-silence nothing))) (a-word refl (a-word refl nothing))
+    (closed refl refl)
+    (spared-from 2 asked (run (word command ∷ sound) (chains 0x4002 0)) refl)
+    186 service-of-two in
+    omega arith
