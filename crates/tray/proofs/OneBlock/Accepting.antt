@@ -1,10 +1,11 @@
--- Bytes that the reader accepts, before bytes that it accepts, are accepted: `accepted-then`. And
--- accepted bytes tell a setup first and events behind it: `first-is-setup`, `rest-are-events`.
--- Assumes nothing.
+-- Bytes that the reader accepts, before bytes that it accepts, are accepted: `accepted-then`. They
+-- tell a setup first and events behind it (`first-is-setup`, `rest-are-events`), and nothing else
+-- (`accepted-once`). Assumes nothing.
 use mathlib.Core.Path.{_≡_, refl, sym, ap, subst, _∙_}
 use mathlib.Core.Bool.{Bool, true, false, true≢false}
 use mathlib.Core.List.{List, [], _∷_, _++_}
 use Prim.Native.Nat.{ℕ}
+use native.Mathlib.Omega.{arith}
 use lib.ListN.{drop}
 use lib.Seq.{drop-append-le}
 use Rattle.terminal.specs.Event.{Event}
@@ -18,7 +19,8 @@ use Rattle.recording.specs.declared.Field.the-variants.{
   Table,
   Flags,
 }
-use Rattle.recording.specs.declared.Reading.the-variants.{Taken}
+use Rattle.recording.specs.declared.Reading.{Reading}
+use Rattle.recording.specs.declared.Reading.the-variants.{Taken, End}
 use Rattle.recording.specs.Field.{isSetup}
 use Rattle.recording.specs.Reading.{readAt}
 use Rattle.recording.proofs.TakenLaws.{taken-within, setup-by-turn}
@@ -138,3 +140,31 @@ pub first-is-setup : {bytes : List ℕ} {told : Happening} {rest : List Happenin
     → Accepted false bytes (told ∷ rest) → SetupFirst (told ∷ rest)
 first-is-setup (a-field {bytes = bytes} {field = field} {rest = rest} is then) =
     setup-tells bytes field rest (setup-by-turn bytes 0 false is) (rest-are-events then)
+
+-- ---- bytes tell one thing alone
+
+end-is-not-taken : {field : Field} {next : ℕ} → End ≡ Taken field next → ⊥
+end-is-not-taken is = let clash : _≡_ {A = ℕ} 0 1 = cc in omega arith
+
+-- two fields that are both the first are one, and leave the same bytes
+module _ {reading : Reading} {field field′ : Field} {next next′ : ℕ}
+    (is : reading ≡ Taken field next) (is′ : reading ≡ Taken field′ next′) where
+  same-field : field ≡ field′
+  same-field = cc
+
+  same-next : next ≡ next′
+  same-next = cc
+
+pub accepted-once : {begun : Bool} {bytes : List ℕ} {told told′ : List Happening}
+    → Accepted begun bytes told → Accepted begun bytes told′ → told ≡ told′
+unfolding readAt
+accepted-once the-end the-end = refl
+accepted-once the-end (a-field is′ then′) = absurd (end-is-not-taken is′)
+accepted-once (a-field is then) the-end = absurd (end-is-not-taken is)
+accepted-once {bytes = bytes} (a-field {rest = rest} is then)
+    (a-field {field = field′} {rest = rest′} is′ then′) =
+    ap (λ (field : Field). happeningOf bytes field ∷ rest) (same-field is is′)
+    ∙ ap (λ (behind : List Happening). happeningOf bytes field′ ∷ behind)
+    (accepted-once
+    (subst (λ (next : ℕ). Accepted true (drop next bytes) rest) (same-next is is′) then)
+    then′)
