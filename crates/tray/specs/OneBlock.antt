@@ -36,6 +36,7 @@ pub data Accepted : Bool → List ℕ → List Happening → Type 0 where
       → readAt bytes 0 begun ≡ Taken field next → Accepted true (drop next bytes) rest
       → Accepted begun bytes (happeningOf bytes field ∷ rest)
 
+-- fields that tell events
 unfoldable pub events : List Event → List Happening
 events [] = []
 events (told ∷ more) = event told ∷ events more
@@ -78,7 +79,7 @@ pub data SameLine : Bool → Message → List ℕ → List ℕ → Type 0 where
       → kindOf (message .command) ≡ ModeLast → withoutError status ≡ withoutError other
       → SameLine true (Open message) (statusLine status (last ∷ [])) (statusLine other (last ∷ []))
 
--- for each later field, as long as no other command opens a message
+-- .. and so for each later field; the exception ends where another command opens a message
 unfoldable pub LaterLines : Bool → List Event → Card → Card → Type 0
 LaterLines before [] here there = Unit {0}
 LaterLines before (told ∷ more) here there =
