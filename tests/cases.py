@@ -1,16 +1,19 @@
 #!/usr/bin/env python3
 """Cases worked by hand from document 01 and its readings; leaves 1 where one fails.
 
-    cases.py [PROGRAM]
+    cases.py            the peer
+    cases.py compiled   the proved programs
 """
 
-import pathlib
 import struct
-import subprocess
 import sys
 
-TESTS = pathlib.Path(__file__).resolve().parent
-PROGRAM = sys.argv[1] if len(sys.argv) > 1 else str(TESTS.parent / "peer" / "peer")
+import programs
+
+if sys.argv[1:] == ["compiled"]:
+    RUN, CELLS = programs.compiled("tray_run"), programs.compiled("tray_cells")
+else:
+    RUN, CELLS = programs.peer(), programs.peer("cells")
 failures = 0
 cases = 0
 
@@ -69,8 +72,7 @@ def check(name, recording, lines, state=(), cells=None, only=None):
     every nonzero cell, or with only the cells named."""
     global failures, cases
     cases += 1
-    plain = subprocess.run([PROGRAM], input=recording, stdout=subprocess.PIPE, check=True).stdout.decode()
-    shown = subprocess.run([PROGRAM, "cells"], input=recording, stdout=subprocess.PIPE, check=True).stdout.decode()
+    plain, shown = (programs.run(program, recording, check=True)[1].decode() for program in (RUN, CELLS))
     wrong = []
     wanted = "".join(line + "\n" for line in lines)
     if plain != wanted:

@@ -10,6 +10,7 @@ share of the recordings holds a malformed field, usually near the end;
 """
 
 import argparse
+import io
 import random
 import struct
 import sys
@@ -695,6 +696,13 @@ def nothing_at_all(generator, at_end=False):
 MALFORMED = (unknown_tag, unknown_tag, cut_length, wrong_length, wrong_length, wrong_length, cut_value,
              cut_value, cut_anywhere, setup_missing, setup_repeated, setup_unfit, setup_unfit, setup_unfit,
              spare_marks, spare_flags, line_above_1, line_above_1, cells_past_end, nothing_at_all)
+
+
+def recording(seed, fields=None, well_formed=False):
+    """A recording's bytes."""
+    sink = io.BytesIO()
+    Generator(seed, fields, well_formed, sink).write()
+    return sink.getvalue()
 
 
 def main():

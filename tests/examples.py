@@ -1,0 +1,143 @@
+#!/usr/bin/env python3
+"""The compiled programs on the stored recordings; leaves 1 on a difference.
+
+Stored are examples/ and tests/recordings/: NAME.txt, what is to be printed in NAME.lines and
+NAME.cells, and in examples/ the bytes in NAME.bin too. Each is run whole, in pieces, cut at each byte
+and with each byte damaged. What a cut or damaged one is to print comes from the peer.
+"""
+
+import concurrent.futures
+import os
+import re
+import signal
+import subprocess
+import sys
+
+import generate
+import programs
+
+RUN = programs.compiled("tray_run")
+CELLS = programs.compiled("tray_cells")
+PEER = programs.peer()
+PEER_CELLS = programs.peer("cells")
+PIECES = (1, 2, 3, 7, 133, 4096, 65537)
+EVERY_BIT = "tray"            # document 01's recording: flipped bit by bit; the others a bit a byte
+SECONDS = 60                  # a run that takes longer hangs
+
+
+def stored_recordings():
+    folders = (programs.ROOT / "examples", programs.TESTS / "recordings")
+    for text in sorted(path for folder in folders for path in folder.glob("*.txt")):
+        digits = re.sub(r"#.*|[;\s]", "", text.read_text())
+        yield text.with_suffix(""), bytes.fromhex(digits)
+
+
+def last_line(prefix):
+    """END or refusal 5, by the lengths in the recording alone, where it holds no other refusal."""
+    at = fields = 0
+    while at < len(prefix):
+        size = 3 + int.from_bytes(prefix[at + 1:at + 3], "big")
+        if len(prefix) < at + 3 or len(prefix) < at + size:
+            return f"! 5 {at}\n"
+        at += size
+        fields += 1
+    return f"END {fields}\n"
+
+
+def masks(name, at):
+    return [1 << bit for bit in range(8)] if name.name == EVERY_BIT else [1 << at % 8]
+
+
+# ---- one check each: the answer is what went wrong, or None
+
+def whole(name, recording):
+    lines = name.with_suffix(".lines").read_bytes()
+    cells = name.with_suffix(".cells").read_bytes()
+    wanted = [(RUN, lines), (PEER, lines), (CELLS, cells), (PEER_CELLS, cells)]
+    if any(programs.run(program, recording) != (0, output, b"") for program, output in wanted):
+        return f"{name.name}: not as stored"
+    binary = name.with_suffix(".bin")
+    if binary.exists() and binary.read_bytes() != recording:
+        return f"{name.name}: its text and its bytes differ"
+    return None
+
+
+def pieces(program, name, recording, output, size):
+    if programs.in_pieces(program, recording, size) != (0, output, b""):
+        return f"{name}: pieces of {size}"
+    return None
+
+
+def cut(name, prefix, is_sound):
+    wanted = programs.run(PEER, prefix)
+    if programs.run(RUN, prefix) != wanted:
+        return f"{name}: cut after {len(prefix)} bytes"
+    if is_sound and not wanted[1].endswith(last_line(prefix).encode()):
+        return f"{name}: cut after {len(prefix)} bytes, the last line is {wanted[1][-20:]}"
+    return None
+
+
+def damaged(name, recording, at, mask):
+    changed = bytearray(recording)
+    changed[at] ^= mask
+    if programs.run(CELLS, changed) != programs.run(PEER_CELLS, changed):
+        return f"{name}: byte {at} changed by {mask:02X}"
+    return None
+
+
+def closed_output(program, recording, handler):
+    """Nobody reads: the signal ends the run or, where it is ignored, the failed write does."""
+    reader, writer = os.pipe()
+    os.close(reader)
+    try:
+        done = subprocess.run(program, input=recording, stdout=writer, stderr=subprocess.PIPE,
+                              timeout=SECONDS, preexec_fn=lambda: signal.signal(signal.SIGPIPE, handler))
+    finally:
+        os.close(writer)
+    if done.returncode not in (0, 1, -signal.SIGPIPE) or done.stderr:
+        return f"closed output: left {done.returncode} {done.stderr!r}"
+    return None
+
+
+def closed_input(program):
+    done = subprocess.run(program, stdout=subprocess.PIPE, stderr=subprocess.PIPE, timeout=SECONDS,
+                          preexec_fn=lambda: os.close(0))
+    if done.returncode != 0 or not done.stdout.startswith(b"END 0\n") or done.stderr:
+        return f"closed input: left {done.returncode} {done.stdout!r} {done.stderr!r}"
+    return None
+
+
+def main():
+    stored = list(stored_recordings())
+    long = generate.recording(2, fields=20000, well_formed=True)
+    checks = {"whole": [(whole, name, recording) for name, recording in stored]}
+    checks["pieces"] = [(pieces, program, name.name, recording, name.with_suffix(kind).read_bytes(), size)
+                        for name, recording in stored
+                        for program, kind in ((RUN, ".lines"), (CELLS, ".cells"))
+                        for size in PIECES if size < 2 * len(recording)]
+    checks["pieces of a long one"] = [(pieces, program, "long", long, programs.run(other, long)[1], size)
+                                      for program, other in ((RUN, PEER), (CELLS, PEER_CELLS))
+                                      for size in PIECES if size > 100]
+    prefixes = {recording[:end]: (name.name, not name.name.startswith("refused"))
+                for name, recording in stored for end in range(len(recording))}
+    checks["cuts"] = [(cut, name, prefix, is_sound) for prefix, (name, is_sound) in prefixes.items()]
+    checks["damaged bytes"] = [(damaged, name.name, recording, at, mask)
+                               for name, recording in stored for at in range(len(recording))
+                               for mask in masks(name, at)]
+    checks["closed output"] = [(closed_output, program, recording, handler)
+                               for program in (RUN, CELLS) for recording in (stored[0][1], long)
+                               for handler in (signal.SIG_DFL, signal.SIG_IGN)]
+    checks["closed input"] = [(closed_input, program) for program in (RUN, CELLS)]
+    failures = 0
+    with concurrent.futures.ThreadPoolExecutor(os.cpu_count()) as pool:
+        for kind, calls in checks.items():
+            wrong = [found for found in pool.map(lambda call: call[0](*call[1:]), calls) if found]
+            for line in wrong:
+                print("FAILED", line)
+            failures += len(wrong)
+            print(f"{kind}: {len(calls) - len(wrong)} of {len(calls)}", flush=True)
+    return 1 if failures or not stored else 0
+
+
+if __name__ == "__main__":
+    sys.exit(main())
