@@ -14,13 +14,18 @@ wrong() {
     printf 'FAILED launcher: %s\n' "$*"
 }
 
-# prints FILE WORDS..: ./tray WORDS prints the file, says nothing and leaves 0
-prints() {
+# call WORDS..: one more call, with what it printed, what it said and the status it left
+call() {
     tried=$((tried + 1))
-    wanted=$1
-    shift
     $tray "$@" >"$room/printed" 2>"$room/said"
     status=$?
+}
+
+# prints FILE WORDS..: ./tray WORDS prints the file, says nothing and leaves 0
+prints() {
+    wanted=$1
+    shift
+    call "$@"
     if [ "$status" -ne 0 ] || [ -s "$room/said" ] || ! cmp -s "$wanted" "$room/printed"; then
         wrong "tray $* left $status: $(cat "$room/said")"
     fi
@@ -28,11 +33,9 @@ prints() {
 
 # refuses PATTERN WORDS..: ./tray WORDS prints nothing, says one line of that pattern, leaves 2
 refuses() {
-    tried=$((tried + 1))
     pattern=$1
     shift
-    $tray "$@" >"$room/printed" 2>"$room/said"
-    status=$?
+    call "$@"
     if [ "$status" -ne 2 ] || [ -s "$room/printed" ] || [ "$(wc -l <"$room/said")" -ne 1 ] ||
         ! grep -q "^tray: .*$pattern" "$room/said"; then
         wrong "tray $* left $status: $(cat "$room/said")"
@@ -131,8 +134,7 @@ tray="env RATTLE_HOME=$kit PATH=$room/bin:$PATH $room/own/tray"
 
 # builds: document 01's lines are printed once rt check was called
 builds() {
-    tried=$((tried + 1))
-    $tray run examples/tray.bin >"$room/printed" 2>"$room/said"
+    call run examples/tray.bin
     if ! cmp -s examples/tray.lines "$room/printed" || ! grep -q '^tray: proving' "$room/said" ||
         ! grep -q '^rt: check tray_run$' "$room/said"; then
         wrong "a call that builds: $(cat "$room/said")"
@@ -145,9 +147,7 @@ touch "$room/own/crates/some/source"
 builds
 prints examples/tray.lines example
 touch "$room/own/crates/some/fault"
-tried=$((tried + 1))
-$tray example >"$room/printed" 2>"$room/said"
-status=$?
+call example
 if [ "$status" -ne 2 ] || [ -s "$room/printed" ] || ! grep -q '^tray: rt check tray_run failed' "$room/said"; then
     wrong "a failed proof left $status: $(cat "$room/said")"
 fi
