@@ -17,7 +17,8 @@ class Coverage:
     def add(self, recording):
         with tempfile.TemporaryDirectory() as folder:
             counters = os.path.join(folder, "counters")
-            programs.run(COUNTING, recording, check=True, env=dict(os.environ, PEER_COVERAGE=counters))
+            programs.run(COUNTING, recording, check=True,
+                         env=dict(os.environ, PEER_COVERAGE=counters))
             with open(counters) as lines:
                 for line in lines:
                     name, count = line.split()
@@ -25,7 +26,7 @@ class Coverage:
                     self.reached[name] = self.reached.get(name, 0) + (count != "0")
 
     def report(self):
-        """Prints every counter; answers those that were never reached, or none where there are none."""
+        """Prints every counter; answers the names of those that were never reached."""
         print("counter: count (recordings that reached it)")
         shown = [f"{name}: {total} ({self.reached[name]})" for name, total in self.totals.items()]
         for start in range(0, len(shown), 3):

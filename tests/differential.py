@@ -1,6 +1,6 @@
 #!/usr/bin/env python3
-"""The proved programs against the peer, on generated recordings: every line, every item of the state,
-every cell. Leaves 1 on a difference.
+"""The proved programs against the peer, on generated recordings: every line, every item of the
+state, every cell. Leaves 1 on a difference.
 
     differential.py                     seeds 1 to 300; a rule, code or refusal that none of them
                                         reaches counts as a failure too
@@ -22,7 +22,8 @@ PAIRS = ((programs.compiled("tray_run"), programs.peer()),
 def outputs(seed):
     """The recording, and ours beside the peer's for either program."""
     recording = generate.recording(seed)
-    return seed, recording, [[programs.run(program, recording) for program in pair] for pair in PAIRS]
+    pairs = [[programs.run(program, recording) for program in pair] for pair in PAIRS]
+    return seed, recording, pairs
 
 
 def first_difference(ours, theirs):

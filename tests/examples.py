@@ -2,8 +2,8 @@
 """The compiled programs on the stored recordings; leaves 1 on a difference.
 
 Stored are examples/ and tests/recordings/: NAME.txt, what is to be printed in NAME.lines and
-NAME.cells, and in examples/ the bytes in NAME.bin too. Each is run whole, in pieces, cut at each byte
-and with each byte damaged. What a cut or damaged one is to print comes from the peer.
+NAME.cells, and in examples/ the bytes in NAME.bin too. Each is run whole, in pieces, cut at each
+byte and with each byte damaged. What a cut or damaged one is to print comes from the peer.
 """
 
 import concurrent.futures
@@ -91,7 +91,8 @@ def closed_output(program, recording, handler):
     os.close(reader)
     try:
         done = subprocess.run(program, input=recording, stdout=writer, stderr=subprocess.PIPE,
-                              timeout=SECONDS, preexec_fn=lambda: signal.signal(signal.SIGPIPE, handler))
+                              timeout=SECONDS,
+                              preexec_fn=lambda: signal.signal(signal.SIGPIPE, handler))
     finally:
         os.close(writer)
     if done.returncode not in (0, 1, -signal.SIGPIPE) or done.stderr:
@@ -111,16 +112,18 @@ def main():
     stored = list(stored_recordings())
     long = generate.recording(2, fields=20000, well_formed=True)
     checks = {"whole": [(whole, name, recording) for name, recording in stored]}
-    checks["pieces"] = [(pieces, program, name.name, recording, name.with_suffix(kind).read_bytes(), size)
+    checks["pieces"] = [(pieces, program, name.name, recording, output.read_bytes(), size)
                         for name, recording in stored
-                        for program, kind in ((RUN, ".lines"), (CELLS, ".cells"))
+                        for program, output in ((RUN, name.with_suffix(".lines")),
+                                                (CELLS, name.with_suffix(".cells")))
                         for size in PIECES if size < 2 * len(recording)]
-    checks["pieces of a long one"] = [(pieces, program, "long", long, programs.run(other, long)[1], size)
-                                      for program, other in ((RUN, PEER), (CELLS, PEER_CELLS))
+    checks["pieces of a long one"] = [(pieces, ours, "long", long, programs.run(other, long)[1], size)
+                                      for ours, other in ((RUN, PEER), (CELLS, PEER_CELLS))
                                       for size in PIECES if size > 100]
-    prefixes = {recording[:end]: (name.name, not name.name.startswith("refused"))
-                for name, recording in stored for end in range(len(recording))}
-    checks["cuts"] = [(cut, name, prefix, is_sound) for prefix, (name, is_sound) in prefixes.items()]
+    # many recordings begin alike: each beginning is run once
+    cuts = {recording[:end]: (name.name, not name.name.startswith("refused"))
+            for name, recording in stored for end in range(len(recording))}
+    checks["cuts"] = [(cut, name, prefix, is_sound) for prefix, (name, is_sound) in cuts.items()]
     checks["damaged bytes"] = [(damaged, name.name, recording, at, mask)
                                for name, recording in stored for at in range(len(recording))
                                for mask in masks(name, at)]

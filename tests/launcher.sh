@@ -74,7 +74,8 @@ prints examples/tray.lines run "$room/a name of = - 3 words.bin"
 # ---- a call from another folder, and through a link: files are the caller's
 tried=$((tried + 1))
 ln -s "$PWD/tray" "$room/link"
-(cd examples && "$room/link" run eight.bin) | cmp -s examples/eight.lines || wrong "a call through a link"
+(cd examples && "$room/link" run eight.bin) | cmp -s examples/eight.lines ||
+    wrong "a call through a link"
 
 # ---- the emulator is not told anything by the caller's variables
 tried=$((tried + 1))
@@ -148,7 +149,8 @@ builds
 prints examples/tray.lines example
 touch "$room/own/crates/some/fault"
 call example
-if [ "$status" -ne 2 ] || [ -s "$room/printed" ] || ! grep -q '^tray: rt check tray_run failed' "$room/said"; then
+if [ "$status" -ne 2 ] || [ -s "$room/printed" ] ||
+    ! grep -q '^tray: rt check tray_run failed' "$room/said"; then
     wrong "a failed proof left $status: $(cat "$room/said")"
 fi
 tray=./tray
@@ -168,7 +170,8 @@ refuses_text 'line 1, column 1:' '\0001\0003'
 
 # ---- 10,000 bytes of text are quick
 tried=$((tried + 1))
-awk 'BEGIN { for (at = 0; at < 10000; at++) printf "%02x%s", at % 256, at % 100 ? " " : "\n" }' >"$room/long"
+awk 'BEGIN { for (at = 0; at < 10000; at++) printf "%02x%s", at % 256, at % 99 ? " " : "\n" }' \
+    >"$room/long"
 began=$(date +%s)
 size=$(./tray bytes "$room/long" | wc -c)
 took=$(($(date +%s) - began))

@@ -30,8 +30,8 @@ def compare(seeds, fields, sizes):
             if found != wanted or wanted[0] != 0:
                 failures += 1
                 print(f"FAILED seed {seed}: {name}, left {found[0]} {found[2].decode()[:2000]}")
-    print(f"{len(seeds)} seeds, {fields or 'any number of'} fields, whole and in pieces of {sizes}: "
-          f"{failures} failures", flush=True)
+    print(f"{len(seeds)} seeds, {fields or 'any number of'} fields, whole and in pieces of "
+          f"{sizes}: {failures} failures", flush=True)
     return failures
 
 
