@@ -1,7 +1,7 @@
 -- Each public contract of the crate allows one outcome alone: one next place, and one content of
 -- every byte of the buffer. Assumes nothing.
 use denote.Ref.{now}
-use Rattle.rules.proofs.Determined.{DeterminedAs, same}
+use Rattle.rules.proofs.Determined.{Determined, DeterminedAs, same}
 use Rattle.lines.specs.Written.{Put, put}
 use Rattle.lines.proofs.status_line.Kinds as status-line-kinds
 use Rattle.lines.proofs.status_line.Reads as status-line-reads
@@ -19,6 +19,8 @@ use Rattle.lines.proofs.hex_word.Kinds as hex-word-kinds
 use Rattle.lines.proofs.hex_word.Reads as hex-word-reads
 use Rattle.lines.proofs.decimal.Kinds as decimal-kinds
 use Rattle.lines.proofs.decimal.Reads as decimal-reads
+use Rattle.lines.proofs.left_from.Kinds as left-from-kinds
+use Rattle.lines.proofs.left_from.Reads as left-from-reads
 
 pub status-line :
     DeterminedAs 2 status-line-kinds.ps status-line-kinds.r status-line-reads.Post Put
@@ -59,3 +61,6 @@ pub decimal :
     DeterminedAs 1 decimal-kinds.ps decimal-kinds.r decimal-reads.Post Put
     (λ κs result exit. put result (now (exit .0)))
 decimal κs arguments result result′ exit exit′ = same
+
+pub left-from : Determined 0 left-from-kinds.ps left-from-kinds.r left-from-reads.Post
+left-from κs arguments result result′ exit exit′ = same

@@ -5,6 +5,7 @@ use mathlib.Core.Logic.{_≢_}
 use mathlib.Core.Bool.{Bool, true, false, cond, not, _&&_}
 use mathlib.Core.List.{List, []}
 use Prim.Native.Nat.{ℕ, zero, suc, _+_, _-_, _≤_, _<_}
+use native.Mathlib.Decide.{decLt}
 use native.Mathlib.Omega.{arith}
 use lib.Dec.{ltb}
 use lib.ListN.{length}
@@ -14,9 +15,10 @@ use Rattle.recording.specs.declared.Reading.the-variants.{Taken, End, Refused}
 use Rattle.recording.specs.Reading.{readAt}
 use Rattle.recording.proofs.TakenLaws.{taken-within}
 use Rattle.lines.specs.Written.{put, lineRoom, lineWritten}
+use Rattle.lines.proofs.WrittenLaws.{length-written}
 use Rattle.tray.specs.declared.Stop.{Stop}
 use Rattle.tray.specs.declared.Stop.the-variants.{Going, Hungry, Full, Over}
-use Rattle.tray.specs.Run.{Tray, lastLine}
+use Rattle.tray.specs.Run.{Tray, lastLine, takingLine}
 use Rattle.tray.specs.Window.{
   Passed,
   mayGoOn,
@@ -32,6 +34,32 @@ use Rattle.tray.specs.Window.{
   windowRun,
 }
 use Rattle.tray.proofs.WindowLaws.{turn-inside}
+
+-- ---- reasons differ
+
+hungry-going : Hungry ≢ Going
+hungry-going same = let z : _≡_ {A = ℕ} 0 1 = cc in omega arith
+
+hungry-full : Hungry ≢ Full
+hungry-full same = let z : _≡_ {A = ℕ} 0 1 = cc in omega arith
+
+over-going : Over ≢ Going
+over-going same = let z : _≡_ {A = ℕ} 0 1 = cc in omega arith
+
+over-full : Over ≢ Full
+over-full same = let z : _≡_ {A = ℕ} 0 1 = cc in omega arith
+
+full-going : Full ≢ Going
+full-going same = let z : _≡_ {A = ℕ} 0 1 = cc in omega arith
+
+going-full : Going ≢ Full
+going-full same = let z : _≡_ {A = ℕ} 0 1 = cc in omega arith
+
+is-going : (stop : Stop) → isGoing stop ≡ true → stop ≡ Going
+is-going Going is = refl
+is-going Hungry is = absurd (let z : _≡_ {A = ℕ} 0 1 = cc in omega arith)
+is-going Full is = absurd (let z : _≡_ {A = ℕ} 0 1 = cc in omega arith)
+is-going Over is = absurd (let z : _≡_ {A = ℕ} 0 1 = cc in omega arith)
 
 module _ (window : List ℕ) (last : Bool) where
   -- what every turn keeps, a call keeps
@@ -167,3 +195,159 @@ module _ (window : List ℕ) (last : Bool) where
       go old′ (Refused number place) =
           stops-so Other number old′
           (λ more. absurd (let z : _≡_ {A = ℕ} 0 1 = cc in omega arith)) over
+
+  -- a turn that does not stop has taken a field
+  turn-moves : (old : Passed) → turn window last old .stop ≡ Going
+      → old .at < turn window last old .at
+  unfolding passing takes
+  turn-moves old =
+      by-turn (λ (new : Passed). new .stop ≡ Going → old .at < new .at) old
+      (λ _ same. absurd (full-going same)) (λ reading is room. go reading is)
+    where
+      Stops : Stop → Type 0
+      Stops stop = stop ≢ Going
+
+      go : (reading : Reading) → readAt window (old .at) (old .tray .begun) ≡ reading
+          → passing reading window last old .stop ≡ Going
+          → old .at < passing reading window last old .at
+      go (Taken field next) is goes =
+          taken-within window (old .at) (old .tray .begun) is .moves-on
+      go End is goes = absurd (stops-so Stops 0 old (λ _. hungry-going) over-going goes)
+      go (Refused number place) is goes =
+          absurd (stops-so Stops number old (λ _. hungry-going) over-going goes)
+
+  turn-within : (old : Passed) → old .at ≤ length window
+      → turn window last old .at ≤ length window
+  unfolding passing takes
+  turn-within old within =
+      by-turn (λ (new : Passed). new .at ≤ length window) old (λ _. within)
+      (λ reading is room. go reading is)
+    where
+      go : (reading : Reading) → readAt window (old .at) (old .tray .begun) ≡ reading
+          → passing reading window last old .at ≤ length window
+      go (Taken field next) is =
+          taken-within window (old .at) (old .tray .begun) is .ends-inside
+      go End is = within
+      go (Refused number place) is = within
+
+  -- turns do nothing to what has stopped
+  stopped-stays : (most : ℕ) (old : Passed) → isGoing (old .stop) ≡ false
+      → turns most window last old ≡ old
+  unfolding turns
+  stopped-stays zero old stops = refl
+  stopped-stays (suc most) old stops = rw stops
+
+  -- with more turns than bytes are left, it stops
+  turns-stop : (most : ℕ) (old : Passed) → old .at ≤ length window
+      → length window - old .at < most → isGoing (turns most window last old .stop) ≡ false
+  unfolding turns
+  turns-stop zero old within few = absurd (omega (arith, few))
+  turns-stop (suc most) old within few =
+      by-test (isGoing (old .stop)) refl (turns-stop most (turn window last old)) where
+        after-turn : (goes : Bool) → isGoing (turn window last old .stop) ≡ goes
+            → (turn window last old .at ≤ length window
+            → length window - turn window last old .at < most
+            → isGoing (turns most window last (turn window last old) .stop) ≡ false)
+            → isGoing (turns most window last (turn window last old) .stop) ≡ false
+        after-turn true is on =
+            on (turn-within old within)
+            (omega (
+              arith,
+              few,
+              turn-moves old (is-going (turn window last old .stop) is),
+              turn-within old within,
+            ))
+        after-turn false is on = rw (stopped-stays most (turn window last old) is) is
+
+        by-test : (goes : Bool) → isGoing (old .stop) ≡ goes
+            → (turn window last old .at ≤ length window
+            → length window - turn window last old .at < most
+            → isGoing (turns most window last (turn window last old) .stop) ≡ false)
+            → isGoing (cond (isGoing (old .stop)) (turns most window last (turn window last old)) old
+            .stop) ≡ false
+        by-test true is on =
+            rw is (after-turn (isGoing (turn window last old .stop)) refl on)
+        by-test false is on = rw (is, is)
+
+  pub call-stops : (old : Tray) (out : List ℕ) → length window < mostTurns
+      → isGoing (windowRun old window last out .stop) ≡ false
+  unfolding windowRun
+  call-stops old out few =
+      turns-stop mostTurns (record { tray = old; at = 0; put = 0; out = out; stop = Going })
+      (omega arith) (omega (arith, few))
+
+  -- ---- where it is full, it has taken a field
+
+  record Started (size : ℕ) (new : Passed) : Type 0 where
+    fresh : new .stop ≡ Going → new .at ≡ 0 → new .put ≡ 0
+    as-long : length (new .out) ≡ size
+    moved : new .stop ≡ Full → 0 < new .at
+
+  stop-started : (size number : ℕ) (old : Passed) → length (old .out) ≡ size
+      → Started size (stopsAt number last old)
+  unfolding stoppedAt
+  stop-started size number old long = go (not last && mayGoOn number) refl where
+    text : List ℕ
+    text = lastLine number (old .tray .fields) (old .tray .offset)
+
+    go : (waits : Bool) → not last && mayGoOn number ≡ waits → Started size (stopsAt number last old)
+    go true is =
+        rw is
+        (record {
+          fresh = λ same. absurd (hungry-going same);
+          as-long = long;
+          moved = λ same. absurd (hungry-full same);
+        })
+    go false is =
+        rw is
+        (record {
+          fresh = λ same. absurd (over-going same);
+          as-long = length-written lineRoom (old .out) (old .put) text ∙ long;
+          moved = λ same. absurd (over-full same);
+        })
+
+  turn-started : (size : ℕ) → lineRoom ≤ size → (old : Passed) → old .stop ≡ Going
+      → Started size old → Started size (turn window last old)
+  unfolding passing takes
+  turn-started size room old goes so-far =
+      by-turn (Started size) old
+      (λ short. record {
+        fresh = λ same. absurd (full-going same);
+        as-long = so-far .as-long;
+        moved =
+            λ _.
+            elim (decLt 0 (old .at)) [
+              | yes more ↦ more
+              | no none ↦
+                  let at-start : old .at ≡ 0 = omega arith in
+                  absurd (omega (arith, short, room, so-far .as-long, so-far .fresh goes at-start))
+            ];
+      })
+      (λ reading is _. go reading is)
+    where
+      go : (reading : Reading) → readAt window (old .at) (old .tray .begun) ≡ reading
+          → Started size (passing reading window last old)
+      go (Taken field next) is =
+          let further : old .at < next =
+          taken-within window (old .at) (old .tray .begun) is .moves-on in
+          record {
+            fresh = λ _ at-start. absurd (omega (arith, further, at-start));
+            as-long =
+                length-written lineRoom (old .out) (old .put) (takingLine window field (old .tray))
+                ∙ so-far .as-long;
+            moved = λ same. absurd (going-full same);
+          }
+      go End is = stop-started size 0 old (so-far .as-long)
+      go (Refused number place) is = stop-started size number old (so-far .as-long)
+
+  pub full-after-a-field : (old : Tray) (out : List ℕ) → lineRoom ≤ length out
+      → windowRun old window last out .stop ≡ Full → 0 < windowRun old window last out .at
+  unfolding windowRun
+  full-after-a-field old out room =
+      turns-keep (Started (length out)) (turn-started (length out) room) mostTurns
+      (record { tray = old; at = 0; put = 0; out = out; stop = Going })
+      (record {
+        fresh = λ _ _. refl;
+        as-long = refl;
+        moved = λ same. absurd (going-full same);
+      }) .moved

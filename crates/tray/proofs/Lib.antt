@@ -9,6 +9,7 @@
 --     EndLaws       a call comes to an end
 --     PieceLaws     any pieces print what the whole prints
 --     OneBlock      one broken message costs one block, over recordings
+--     Determined    each public contract allows one outcome alone
 pub mod HappenLaws
 pub mod LineLaws
 pub mod TurnLaws
@@ -19,3 +20,4 @@ pub mod WindowLaws
 pub mod EndLaws
 pub mod PieceLaws
 pub mod OneBlock
+pub mod Determined
