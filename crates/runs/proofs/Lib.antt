@@ -17,6 +17,7 @@
 --     Queue           joining, reading and overflow
 --     Refusals        refusals 1, 8, 3 and setup's 2, 3, 8, in their order
 --     Unfit           refusal 4: unfit states
+--     Marked          the ten marked cases of document 01, one table with one proof
 --     OneBlock        one broken message costs one block: two runs, and what is false with less
 pub mod Machine
 pub mod Telling
@@ -35,4 +36,5 @@ mod Closing
 mod Queue
 mod Refusals
 mod Unfit
+mod Marked
 mod OneBlock

@@ -6,6 +6,7 @@ use mathlib.Core.Logic.{_≢_}
 use mathlib.Core.Bool.{Bool, true, false}
 use mathlib.Core.List.{List, _++_}
 use Prim.Native.Nat.{ℕ, _≤_}
+use lib.Dec.{eqb}
 use lib.ListN.{length, take}
 use Rattle.tray.specs.declared.Stop.{Stop}
 use Rattle.tray.specs.declared.Stop.the-variants.{Hungry, Over}
@@ -39,10 +40,11 @@ pub record Grown (window : List ℕ) (have : ℕ) (window′ : List ℕ) (have�
   pub behind : take have′ window′ ≡ take have window ++ piece
   pub inside : have′ ≤ length window′
 
--- the same, for the program's state
+-- the same, for the program's state; where nothing came the input has ended
 pub record ReadOn (old : Pump) (window : List ℕ) (new : Pump) (window′ : List ℕ) : Type 0 where
   pub grown : Grown window (old .have) window′ (new .have)
   pub same-run : new .run ≡ old .run
+  pub at-end : new .ended ≡ eqb (new .have) (old .have)
   pub goes-on : new .over ≡ false
 
 -- a call, over so many bytes in the window, and what of them is left
