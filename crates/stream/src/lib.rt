@@ -103,7 +103,7 @@ impl Pump {
         }
     }
 
-    // What a call leaves to do: nothing more where the run is over, and a read where it needs bytes.
+    // What a call leaves to do: nothing where the run is over, and a read where it needs bytes.
     fn settle(self, window: &mut [u8], stop: Stop) -> Pump
         requires { ⌜ self .have ≤ length (now window) ⌝ }
         ensures { λ pump. ⌜ Settled self (now (window .entry)) stop pump (now (window .exit)) ⌝ }

@@ -21,6 +21,7 @@ use Rattle.tray.specs.declared.Stop.the-variants.{Going, Hungry, Full, O
 use Rattle.tray.specs.Run.{Tray, lastLine, takingLine}
 use Rattle.tray.specs.Window.{
   Passed,
+  stopping,
   mayGoOn,
   stopped,
   stoppedAt,
@@ -88,7 +89,7 @@ module _ (window : List ℕ) (last : Bool) where
   -- a turn that is not full goes by its reading
   by-turn : (Claim : Passed → Type 0) (old : Passed)
       → (length (old .out) - old .put < lineRoom
-      → Claim (record { tray = old .tray; at = old .at; put = old .put; out = old .out; stop = Full }))
+      → Claim (stopping Full old))
       → ((reading : Reading) → readAt window (old .at) (old .tray .begun) ≡ reading
       → lineRoom ≤ length (old .out) - old .put → Claim (passing reading window last old))
       → Claim (turn window last old)
@@ -135,7 +136,8 @@ module _ (window : List ℕ) (last : Bool) where
   unfolding windowRun passing takes
   call-within old out =
       turns-keep Within
-      (λ old′ is within. by-turn Within old′ (λ _. within) (λ reading is′ room. go old′ within reading is′))
+      (λ old′ is within.
+      by-turn Within old′ (λ _. within) (λ reading is′ room. go old′ within reading is′))
       mostTurns (record { tray = old; at = 0; put = 0; out = out; stop = Going }) (omega arith)
     where
       Within : Passed → Type 0
@@ -237,37 +239,46 @@ module _ (window : List ℕ) (last : Bool) where
   stopped-stays zero old stops = refl
   stopped-stays (suc most) old stops = rw stops
 
-  -- with more turns than bytes are left, it stops
-  turns-stop : (most : ℕ) (old : Passed) → old .at ≤ length window
-      → length window - old .at < most → isGoing (turns most window last old .stop) ≡ false
+  -- a turn more, or none
+  turns-by : (most : ℕ) (old : Passed) (goes : Bool) → isGoing (old .stop) ≡ goes
+      → turns (suc most) window last old
+      ≡ cond goes (turns most window last (turn window last old)) old
   unfolding turns
+  turns-by most old goes is = rw is
+
+  -- that it stops, if the turns that are left are more than the bytes
+  abbrev StopsIn : ℕ → Passed → Type 0
+  StopsIn most old =
+      old .at ≤ length window → length window - old .at < most
+      → isGoing (turns most window last old .stop) ≡ false
+
+  after-turn : (most : ℕ) (old : Passed) (goes : Bool)
+      → isGoing (turn window last old .stop) ≡ goes → StopsIn most (turn window last old)
+      → old .at ≤ length window → length window - old .at < suc most
+      → isGoing (turns most window last (turn window last old) .stop) ≡ false
+  after-turn most old true is on within few =
+      on (turn-within old within)
+      (omega (
+        arith,
+        few,
+        turn-moves old (is-going (turn window last old .stop) is),
+        turn-within old within,
+      ))
+  after-turn most old false is on within few =
+      rw (stopped-stays most (turn window last old) is) is
+
+  one-more : (most : ℕ) (old : Passed) (goes : Bool) → isGoing (old .stop) ≡ goes
+      → StopsIn most (turn window last old) → StopsIn (suc most) old
+  one-more most old true is on within few =
+      rw (turns-by most old true is)
+      (after-turn most old (isGoing (turn window last old .stop)) refl on within few)
+  one-more most old false is on within few = rw (turns-by most old false is) is
+
+  turns-stop : (most : ℕ) (old : Passed) → StopsIn most old
   turns-stop zero old within few = absurd (omega (arith, few))
   turns-stop (suc most) old within few =
-      by-test (isGoing (old .stop)) refl (turns-stop most (turn window last old)) where
-        after-turn : (goes : Bool) → isGoing (turn window last old .stop) ≡ goes
-            → (turn window last old .at ≤ length window
-            → length window - turn window last old .at < most
-            → isGoing (turns most window last (turn window last old) .stop) ≡ false)
-            → isGoing (turns most window last (turn window last old) .stop) ≡ false
-        after-turn true is on =
-            on (turn-within old within)
-            (omega (
-              arith,
-              few,
-              turn-moves old (is-going (turn window last old .stop) is),
-              turn-within old within,
-            ))
-        after-turn false is on = rw (stopped-stays most (turn window last old) is) is
-
-        by-test : (goes : Bool) → isGoing (old .stop) ≡ goes
-            → (turn window last old .at ≤ length window
-            → length window - turn window last old .at < most
-            → isGoing (turns most window last (turn window last old) .stop) ≡ false)
-            → isGoing (cond (isGoing (old .stop)) (turns most window last (turn window last old)) old
-            .stop) ≡ false
-        by-test true is on =
-            rw is (after-turn (isGoing (turn window last old .stop)) refl on)
-        by-test false is on = rw (is, is)
+      one-more most old (isGoing (old .stop)) refl (turns-stop most (turn window last old)) within
+      few
 
   pub call-stops : (old : Tray) (out : List ℕ) → length window < mostTurns
       → isGoing (windowRun old window last out .stop) ≡ false
@@ -290,7 +301,8 @@ module _ (window : List ℕ) (last : Bool) where
     text : List ℕ
     text = lastLine number (old .tray .fields) (old .tray .offset)
 
-    go : (waits : Bool) → not last && mayGoOn number ≡ waits → Started size (stopsAt number last old)
+    go : (waits : Bool) → not last && mayGoOn number ≡ waits
+        → Started size (stopsAt number last old)
     go true is =
         rw is
         (record {

@@ -82,7 +82,8 @@ module _ (start : List ℕ) (at end : ℕ) where
   kept-none inside none =
       let nothing : end - at ≡ 0 = omega arith in
       let empty : slice at end start ≡ [] =
-      drop-of-length-le (take end start) {i = at} (omega (arith, length-take-le end start inside)) in
+      drop-of-length-le (take end start) {i = at}
+      (omega (arith, length-take-le end start inside)) in
       rw (le-leb end (length start) inside, nothing, empty)
 
 pub ruleset keeping = (keeping-none, keeping-more, keeping-all, kept-past, kept-none)

@@ -8,7 +8,7 @@ use Rattle.tray.proofs.stop_at.Tie as tie
 
 returns : tie.Need-returns
 unfolding stoppedAt
-returns c = search (needs, cases, over-line) depth 9
+returns c = search (needs, cases) depth 9
 
 put-last-requires : tie.Need-put-last-requires
 put-last-requires c κs = search needs
