@@ -1,0 +1,49 @@
+-- `vectors::counts::feed` meets its contract. The loop keeps the length of the card. Assumes
+-- nothing.
+use mathlib.Core.Path.{_≡_}
+use Prim.Native.Nat.{_-_}
+use lib.ListN.{length}
+use borrow.Author.Needs.{needs}
+use Rattle.vectors.proofs.counts.feed.Statement.{statement}
+use Rattle.vectors.proofs.counts.feed.Tie as tie
+
+abbrev Inv-loop : tie.InvT-loop
+Inv-loop ram₀ words left₀ word₀ ram left word = length ram ≡ length ram₀
+
+abbrev μ-loop : tie.MeasureT-loop
+μ-loop ram₀ words left₀ word₀ ram left word = words - word
+
+loop-holds : tie.Need-loop-holds Inv-loop μ-loop
+loop-holds c = search needs
+
+data-requires : tie.Need-data-requires Inv-loop μ-loop
+data-requires c κs = search needs
+
+add-word : tie.Need-add-word Inv-loop μ-loop
+add-word c = search needs
+
+loop-less : tie.Need-loop-less Inv-loop μ-loop
+loop-less c = search needs
+
+loop-again : tie.Need-loop-again Inv-loop μ-loop
+loop-again c = search needs
+
+same-length : tie.Need-same-length Inv-loop μ-loop
+same-length c = search needs
+
+returns : tie.Need-returns Inv-loop μ-loop
+returns c = search needs
+
+pub feed-spec : {M : Type 1} → statement M
+feed-spec =
+    tie.close
+    (tie.spec
+    Inv-loop
+    μ-loop
+    loop-holds
+    data-requires
+    add-word
+    loop-less
+    loop-again
+    same-length
+    returns)

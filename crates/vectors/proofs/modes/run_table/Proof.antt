@@ -1,0 +1,50 @@
+-- `vectors::modes::run_table` meets its contract. Assumes nothing.
+use Prim.Native.Nat.{_-_}
+use borrow.Author.Needs.{needs}
+use Rattle.vectors.proofs.modes.run_table.Statement.{statement}
+use Rattle.vectors.proofs.modes.run_table.Tie as tie
+
+abbrev Inv-loop : tie.InvT-loop
+Inv-loop table score₀ index₀ score index = Unit {0}
+
+abbrev μ-loop : tie.MeasureT-loop
+μ-loop table score₀ index₀ score index = 256 - index
+
+none-requires : tie.Need-none-requires Inv-loop μ-loop
+none-requires c κs = search needs
+
+loop-holds : tie.Need-loop-holds Inv-loop μ-loop
+loop-holds c = tt
+
+case-of-requires : tie.Need-case-of-requires Inv-loop μ-loop
+case-of-requires c κs = search needs
+
+judge-requires : tie.Need-judge-requires Inv-loop μ-loop
+judge-requires c κs = search needs
+
+add-index : tie.Need-add-index Inv-loop μ-loop
+add-index c = search needs
+
+loop-less : tie.Need-loop-less Inv-loop μ-loop
+loop-less c = search needs
+
+loop-again : tie.Need-loop-again Inv-loop μ-loop
+loop-again c = tt
+
+returns : tie.Need-returns Inv-loop μ-loop
+returns c = search needs
+
+pub run-table-spec : {M : Type 1} → statement M
+run-table-spec =
+    tie.close
+    (tie.spec
+    Inv-loop
+    μ-loop
+    none-requires
+    loop-holds
+    case-of-requires
+    judge-requires
+    add-index
+    loop-less
+    loop-again
+    returns)

@@ -1,0 +1,69 @@
+-- `vectors::notation::read_lines` meets its contract. The loop keeps the length of the buffer.
+-- Assumes nothing.
+use mathlib.Core.Path.{_≡_}
+use Prim.Native.Nat.{_-_}
+use lib.ListN.{length}
+use borrow.Author.Needs.{needs}
+use Rattle.vectors.proofs.notation.read_lines.Statement.{statement}
+use Rattle.vectors.proofs.notation.read_lines.Tie as tie
+
+abbrev Inv-loop : tie.InvT-loop
+Inv-loop text out₀ count₀ at₀ out count at = length out ≡ length out₀
+
+abbrev μ-loop : tie.MeasureT-loop
+μ-loop text out₀ count₀ at₀ out count at = length text - at
+
+loop-holds : tie.Need-loop-holds Inv-loop μ-loop
+loop-holds c = search needs
+
+shared-slice-read-if1 : tie.Need-shared-slice-read-if1 Inv-loop μ-loop
+shared-slice-read-if1 c = search needs
+
+same-length : tie.Need-same-length Inv-loop μ-loop
+same-length c = search needs
+
+returns : tie.Need-returns Inv-loop μ-loop
+returns c = search needs
+
+shared-slice-read-printed : tie.Need-shared-slice-read-printed Inv-loop μ-loop
+shared-slice-read-printed c = search needs
+
+printed-requires : tie.Need-printed-requires Inv-loop μ-loop
+printed-requires c κs = search needs
+
+put-byte-requires : tie.Need-put-byte-requires Inv-loop μ-loop
+put-byte-requires c κs = search needs
+
+add-at : tie.Need-add-at Inv-loop μ-loop
+add-at c = search needs
+
+loop-less : tie.Need-loop-less Inv-loop μ-loop
+loop-less c = search needs
+
+loop-again : tie.Need-loop-again Inv-loop μ-loop
+loop-again c = search needs
+
+same-length-2 : tie.Need-same-length-2 Inv-loop μ-loop
+same-length-2 c = search needs
+
+returns-2 : tie.Need-returns-2 Inv-loop μ-loop
+returns-2 c = search needs
+
+pub read-lines-spec : {M : Type 1} → statement M
+read-lines-spec =
+    tie.close
+    (tie.spec
+    Inv-loop
+    μ-loop
+    loop-holds
+    shared-slice-read-if1
+    same-length
+    returns
+    shared-slice-read-printed
+    printed-requires
+    put-byte-requires
+    add-at
+    loop-less
+    loop-again
+    same-length-2
+    returns-2)

@@ -1,0 +1,61 @@
+-- `vectors::recordings::run` meets its contract. Assumes nothing.
+use borrow.Author.Needs.{needs}
+use Rattle.vectors.proofs.recordings.run.Statement.{statement}
+use Rattle.vectors.proofs.recordings.run.Tie as tie
+
+abbrev Inv-loop : tie.InvT-loop
+Inv-loop name text score₀ at₀ left₀ score at left = Unit {0}
+
+abbrev μ-loop : tie.MeasureT-loop
+μ-loop name text score₀ at₀ left₀ score at left = left
+
+none-requires : tie.Need-none-requires Inv-loop μ-loop
+none-requires c κs = search needs
+
+after-requires : tie.Need-after-requires Inv-loop μ-loop
+after-requires c κs = search needs
+
+loop-holds : tie.Need-loop-holds Inv-loop μ-loop
+loop-holds c = tt
+
+case-at-requires : tie.Need-case-at-requires Inv-loop μ-loop
+case-at-requires c κs = search needs
+
+holds-requires : tie.Need-holds-requires Inv-loop μ-loop
+holds-requires c κs = search needs
+
+judge-requires : tie.Need-judge-requires Inv-loop μ-loop
+judge-requires c κs = search needs
+
+sub-left : tie.Need-sub-left Inv-loop μ-loop
+sub-left c = search needs
+
+loop-less : tie.Need-loop-less Inv-loop μ-loop
+loop-less c = search needs
+
+loop-again : tie.Need-loop-again Inv-loop μ-loop
+loop-again c = tt
+
+print-score-requires : tie.Need-print-score-requires Inv-loop μ-loop
+print-score-requires c κs = search needs
+
+returns : tie.Need-returns Inv-loop μ-loop
+returns c = search needs
+
+pub run-spec : {M : Type 1} → statement M
+run-spec =
+    tie.close
+    (tie.spec
+    Inv-loop
+    μ-loop
+    none-requires
+    after-requires
+    loop-holds
+    case-at-requires
+    holds-requires
+    judge-requires
+    sub-left
+    loop-less
+    loop-again
+    print-score-requires
+    returns)

@@ -1,0 +1,178 @@
+// How a case is written that is a recording:
+//
+//     # what it shows
+//     the recording, in 01's notation: hex, blanks and semicolons for the eye only
+//     >the lines that it must print, a semicolon for the newline of each
+//     = remembered status, last command, marks, blocks that wait; then every nonzero cell, rising,
+//     as address and word
+//
+// The marks are a byte: bit 0 line A shut, 1 line B shut, 2 inhibit, 3 overflow; the high digit is
+// 0 where nothing is open, else the stage: 1 data, 2 second command, 3 awaiting status, 4 skipping.
+// Where no setup was taken, status, last command, marks and count are zero.
+//
+// A table is written in hex too, a row a line, and a remark from a number sign to the line's end.
+
+// A part of the text, empty where its ends are not in order.
+pub fn part(text: &[u8], start: usize, end: usize) -> &[u8] {
+    if end < start {
+        return &text[0..0];
+    }
+    if text.len() < end {
+        return &text[0..0];
+    }
+    &text[start..end]
+}
+
+// The place behind the first such byte from a place on, or the text's end.
+pub fn after(text: &[u8], from: usize, byte: u8) -> usize {
+    let mut at = from;
+    while at < text.len() {
+        if text[at] == byte {
+            return at + 1;
+        }
+        at += 1;
+    }
+    text.len()
+}
+
+// Puts a byte at a place, if there is room, and answers the next place.
+pub fn put_byte(out: &mut [u8], at: usize, byte: u8) -> usize {
+    if at < out.len() {
+        out[at] = byte;
+        return at + 1;
+    }
+    at
+}
+
+// Puts a word, high byte first.
+pub fn put_word(out: &mut [u8], at: usize, word: u16) -> usize {
+    let next = put_byte(out, at, (word / 256 % 256) as u8);
+    put_byte(out, next, (word % 256) as u8)
+}
+
+// ---- hex
+
+// A digit's number, 16 for a byte that is none.
+fn digit(byte: u8) -> u8 {
+    if byte < 48 {
+        return 16;
+    }
+    if byte < 58 {
+        return byte - 48;
+    }
+    if byte < 65 {
+        return 16;
+    }
+    if byte < 71 {
+        return byte - 55;
+    }
+    16
+}
+
+// How far a reading has come: the bytes that were put, the high digit of the next, 16 for none, and
+// whether a remark is being passed over.
+struct Pairing {
+    count: usize,
+    high: u8,
+    remark: bool,
+}
+
+fn pair(out: &mut [u8], old: Pairing, low: u8) -> Pairing {
+    if low == 16 {
+        return old;
+    }
+    if old.high == 16 {
+        return Pairing {
+            count: old.count,
+            high: low,
+            remark: false,
+        };
+    }
+    let byte = (old.high % 16) * 16 + low % 16;
+    Pairing {
+        count: put_byte(out, old.count, byte),
+        high: 16,
+        remark: false,
+    }
+}
+
+fn with_remark(old: Pairing, remark: bool) -> Pairing {
+    Pairing {
+        count: old.count,
+        high: old.high,
+        remark: remark,
+    }
+}
+
+fn turn(out: &mut [u8], old: Pairing, byte: u8) -> Pairing {
+    if byte == b'#' {
+        return with_remark(old, true);
+    }
+    if byte == b'\n' {
+        return with_remark(old, false);
+    }
+    if old.remark {
+        return old;
+    }
+    pair(out, old, digit(byte))
+}
+
+// The bytes that a text's hex digits spell, two by two; every other byte is for the eye. Answers
+// how many they are.
+pub fn read_hex(text: &[u8], out: &mut [u8]) -> usize {
+    let mut pairing = Pairing {
+        count: 0,
+        high: 16,
+        remark: false,
+    };
+    let mut at: usize = 0;
+    while at < text.len() {
+        pairing = turn(out, pairing, text[at]);
+        at += 1;
+    }
+    pairing.count
+}
+
+// ---- tables
+
+// A column of a row of bytes, 0 where the row has no such column.
+pub fn byte_in(row: &[u8], column: usize) -> u8 {
+    if column < row.len() {
+        return row[column];
+    }
+    0
+}
+
+fn word_of(high: u8, low: u8) -> u16 {
+    (high as u16) * 256 + (low as u16)
+}
+
+// A column of a row of words, high byte first.
+pub fn word_in(row: &[u8], column: usize) -> u16 {
+    let at = column % 128 * 2;
+    word_of(byte_in(row, at), byte_in(row, at + 1))
+}
+
+// ---- printed lines
+
+// A semicolon stands for the newline.
+fn printed(byte: u8) -> u8 {
+    if byte == b';' {
+        return b'\n';
+    }
+    byte
+}
+
+// The lines that a text stands for, up to its own newline. Answers how many bytes they have.
+pub fn read_lines(text: &[u8], out: &mut [u8]) -> usize {
+    let mut count: usize = 0;
+    let mut at: usize = 0;
+    while at < text.len() {
+        if text[at] == b'\n' {
+            return count;
+        }
+        count = put_byte(out, count, printed(text[at]));
+        at += 1;
+    }
+    count
+}

@@ -1,0 +1,60 @@
+// Setup: refusals 2, 3 and 8 in this order; what is taken is as 01 has it at setup.
+use crate::notation;
+use terminal::actions::Done;
+use terminal::state::Terminal;
+
+// The bytes of a row: station, table block, flags, refusal.
+pub const ROW_BYTES: usize = 8;
+
+// Puts the rows into a buffer.
+pub fn read_rows(out: &mut [u8]) -> usize {
+    notation::read_hex(
+        b"
+0000 0000 0000 0000
+0005 0001 0000 0000
+001E 00FF 003F 0000
+001F 0001 0000 0002
+001F 0100 0040 0002
+FFFF FFFF FFFF 0002
+001E 0100 0000 0003
+001E 0100 0040 0003
+001E 00FF 0040 0008
+001E 00FF FFFF 0008
+",
+        out,
+    )
+}
+
+// All but station, table and flags is zero, save the remembered status.
+fn is_set_up(terminal: Terminal, station: u16, table: u16, flags: u16) -> bool {
+    let core = terminal.core;
+    let answered = terminal.read_queue();
+    let numbers = (core.station == station) & (core.table == table) & (core.flags == flags);
+    let words = (core.status == station % 32 * 2048) & (core.last == 0);
+    numbers & words & (answered.refusal == 0) & (answered.word == 0)
+}
+
+// What is refused gives no terminal: every action refuses it with 4.
+fn is_none(terminal: Terminal) -> bool {
+    let answered = terminal.read_queue();
+    answered.refusal == 4
+}
+
+fn is_as_wanted(done: Done, row: &[u8]) -> bool {
+    let terminal = done.terminal;
+    if done.refusal == 0 {
+        let station = notation::word_in(row, 0);
+        let table = notation::word_in(row, 1);
+        return is_set_up(terminal, station, table, notation::word_in(row, 2));
+    }
+    is_none(terminal)
+}
+
+// Whether a row comes out as it should.
+pub fn holds(row: &[u8]) -> bool {
+    let station = notation::word_in(row, 0);
+    let table = notation::word_in(row, 1);
+    let done = Terminal::setup(station, table, notation::word_in(row, 2));
+    let number = done.refusal as u16;
+    (number == notation::word_in(row, 3)) & is_as_wanted(done, row)
+}

@@ -1,0 +1,202 @@
+// States that are fit and states that are not, refusal 4: each state is given to every action that
+// takes one.
+use crate::notation;
+use message::state::Message;
+use message::state::OpenMessage;
+use message::state::Second;
+use message::state::Stage;
+use queue::Queue;
+use queue::Ring;
+use terminal::state::Core;
+use terminal::state::Shut;
+use terminal::state::Terminal;
+
+// The bytes of a row: station, table block, flags; queue start, count, and place 200; the open
+// command, its block, table block and words taken, the second command (0 for none), the stage; the
+// refusal.
+pub const ROW_BYTES: usize = 26;
+
+// Stages, 0 for nothing open.
+const DATA: u16 = 1;
+
+const SECOND_COMMAND: u16 = 2;
+
+const AWAITING_STATUS: u16 = 3;
+
+// Puts the rows into a buffer.
+pub fn read_rows(out: &mut [u8]) -> usize {
+    notation::read_hex(
+        b"
+# nothing open
+0005 0001 0000 0000 0000 0000 0000 0000 0000 0000 0000 0000 0000
+001E 00FF 003F 00FF 0100 00FF 0000 0000 0000 0000 0000 0000 0000
+001F 0001 0000 0000 0000 0000 0000 0000 0000 0000 0000 0000 0004
+0005 0100 0000 0000 0000 0000 0000 0000 0000 0000 0000 0000 0004
+0005 0001 0040 0000 0000 0000 0000 0000 0000 0000 0000 0000 0004
+0005 0001 0000 0100 0000 0000 0000 0000 0000 0000 0000 0000 0004
+0005 0001 0000 0000 0101 0000 0000 0000 0000 0000 0000 0000 0004
+# a place that is not in use is judged too
+0005 0001 0000 0000 0000 0100 0000 0000 0000 0000 0000 0000 0004
+# the open command's address
+0005 0001 0000 0000 0000 0000 2862 0002 0001 0000 0000 0001 0000
+0005 0001 0000 0000 0000 0000 3062 0002 0001 0000 0000 0001 0004
+0005 0001 0001 0000 0000 0000 F862 0002 0001 0000 0000 0001 0000
+0005 0001 0000 0000 0000 0000 F862 0002 0001 0000 0000 0001 0000
+# its block and its table block, whatever the command
+0005 0001 0000 0000 0000 0000 2862 00FF 00FF 0000 0000 0001 0000
+0005 0001 0000 0000 0000 0000 2862 0100 0001 0000 0000 0001 0004
+0005 0001 0000 0000 0000 0000 2862 0002 0100 0000 0000 0001 0004
+0005 0001 0000 0000 0000 0000 2C02 0100 0001 0000 0000 0001 0004
+# words taken
+0005 0001 0000 0000 0000 0000 2862 0002 0001 0002 0000 0001 0000
+0005 0001 0000 0000 0000 0000 2862 0002 0001 0003 0000 0001 0004
+0005 0001 0000 0000 0000 0000 2860 0002 0001 0020 0000 0001 0000
+0005 0001 0000 0000 0000 0000 2860 0002 0001 0021 0000 0001 0004
+0005 0001 0000 0000 0000 0000 2C62 0002 0001 0000 0000 0001 0000
+0005 0001 0000 0000 0000 0000 2C62 0002 0001 0001 0000 0001 0004
+0005 0001 0000 0000 0000 0000 2811 0002 0001 0001 0000 0001 0000
+0005 0001 0000 0000 0000 0000 2811 0002 0001 0002 0000 0001 0004
+# skipping exactly for illegal commands
+0005 0001 0000 0000 0000 0000 2C09 0000 0001 0000 0000 0004 0000
+0005 0001 0000 0000 0000 0000 FC62 0000 0001 0000 0000 0004 0000
+0005 0001 0000 0000 0000 0000 2C09 0000 0001 0001 0000 0004 0004
+0005 0001 0000 0000 0000 0000 2C09 0000 0001 0000 0000 0001 0004
+0005 0001 0000 0000 0000 0000 2862 0002 0001 0000 0000 0004 0004
+# a second command, its answer awaited, and after the answer
+0005 0001 0000 0000 0000 0000 2862 0002 0001 0000 3522 0002 0000
+0005 0001 0000 0000 0000 0000 2862 0002 0001 0000 3522 0003 0000
+0005 0001 0000 0000 0000 0000 2862 0002 0001 0001 3522 0001 0000
+0005 0001 0001 0000 0000 0000 F862 0002 0001 0000 3522 0002 0000
+# no second command there
+0005 0001 0000 0000 0000 0000 2862 0002 0001 0000 0000 0002 0004
+0005 0001 0000 0000 0000 0000 2862 0002 0001 0000 0000 0003 0004
+# words before the answer
+0005 0001 0000 0000 0000 0000 2862 0002 0001 0001 3522 0002 0004
+0005 0001 0000 0000 0000 0000 2862 0002 0001 0001 3522 0003 0004
+# not as rule 6 takes it: count, own station, address 31, direction, subaddresses 0 and 31
+0005 0001 0000 0000 0000 0000 2862 0002 0001 0000 3523 0002 0004
+0005 0001 0000 0000 0000 0000 2862 0002 0001 0000 3523 0001 0004
+0005 0001 0000 0000 0000 0000 2862 0002 0001 0000 2D22 0002 0004
+0005 0001 0000 0000 0000 0000 2862 0002 0001 0000 FD22 0003 0004
+0005 0001 0000 0000 0000 0000 2862 0002 0001 0000 3122 0002 0004
+0005 0001 0000 0000 0000 0000 2862 0002 0001 0000 3402 0002 0004
+0005 0001 0000 0000 0000 0000 2862 0002 0001 0000 37E2 0003 0004
+# not after a data receive
+0005 0001 0000 0000 0000 0000 2C62 0002 0001 0000 3522 0001 0004
+0005 0001 0000 0000 0000 0000 2C62 0002 0001 0000 3522 0002 0004
+0005 0001 0000 0000 0000 0000 2811 0002 0001 0000 3531 0001 0004
+0005 0001 0000 0000 0000 0000 2C09 0000 0001 0000 3529 0002 0004
+",
+        out,
+    )
+}
+
+// ---- the state of a row
+
+fn second_of(command: u16) -> Second {
+    if command == 0 {
+        return Second::Absent;
+    }
+    Second::Command(command)
+}
+
+fn stage_of(number: u16) -> Stage {
+    if number == DATA {
+        return Stage::Data;
+    }
+    if number == SECOND_COMMAND {
+        return Stage::SecondCommand;
+    }
+    if number == AWAITING_STATUS {
+        return Stage::AwaitingStatus;
+    }
+    Stage::Skipping
+}
+
+fn open_message(row: &[u8]) -> OpenMessage {
+    OpenMessage {
+        command: notation::word_in(row, 6),
+        line: false,
+        block: notation::word_in(row, 7),
+        home: notation::word_in(row, 8),
+        moved: false,
+        busy: false,
+        queued: false,
+        opened: 0,
+        taken: notation::word_in(row, 9),
+        second: second_of(notation::word_in(row, 10)),
+        stage: stage_of(notation::word_in(row, 11)),
+    }
+}
+
+fn message_of(row: &[u8]) -> Message {
+    if notation::word_in(row, 11) == 0 {
+        return Message::Idle;
+    }
+    Message::Open(open_message(row))
+}
+
+fn core_of(row: &[u8]) -> Core {
+    Core {
+        station: notation::word_in(row, 0),
+        table: notation::word_in(row, 1),
+        flags: notation::word_in(row, 2),
+        status: 0,
+        last: 0,
+        shut: Shut { a: false, b: false },
+        inhibit: false,
+        message: message_of(row),
+    }
+}
+
+fn queue_of(row: &[u8]) -> Queue {
+    let mut places: [u16; 256] = [0; 256];
+    places[200] = notation::word_in(row, 5);
+    Queue {
+        places: places,
+        ring: Ring {
+            start: notation::word_in(row, 3),
+            count: notation::word_in(row, 4),
+            overflow: false,
+        },
+    }
+}
+
+fn terminal_of(row: &[u8]) -> Terminal {
+    Terminal {
+        core: core_of(row),
+        queue: queue_of(row),
+    }
+}
+
+// ---- the cases
+
+// The actions that take the state alone.
+fn host_holds(state: Terminal, wanted: u16) -> bool {
+    let read = state.read_queue();
+    let moved = state.move_table(1);
+    let set = state.set_flags(0);
+    (read.refusal as u16 == wanted)
+        & (moved.refusal as u16 == wanted)
+        & (set.refusal as u16 == wanted)
+}
+
+// The actions that take the RAM too.
+fn bus_holds(state: Terminal, wanted: u16) -> bool {
+    let mut cells: [u16; 16384] = [0; 16384];
+    let ram: &mut [u16] = &mut cells;
+    let words: [u16; 1] = [7];
+    let heard = state.word(ram, 12, 1, 1);
+    let ended = state.silence(ram, 0, 2);
+    let written = state.host_write(ram, 0, &words);
+    (heard.refusal as u16 == wanted)
+        & (ended.refusal as u16 == wanted)
+        & (written.refusal as u16 == wanted)
+}
+
+// Whether a row comes out as it should.
+pub fn holds(row: &[u8]) -> bool {
+    let state = terminal_of(row);
+    let wanted = notation::word_in(row, 12);
+    host_holds(state, wanted) & bus_holds(state, wanted)
+}
