@@ -1,14 +1,17 @@
 -- A piece is read behind the bytes that are there: the part that was lent to the read comes back
 -- in its place, and so many of its bytes count. Assumes nothing.
-use mathlib.Core.Path.{_≡_, sym, ap, _∙_}
+use mathlib.Core.Path.{_≡_, refl, sym, ap, _∙_}
+use mathlib.Core.Bool.{false}
 use mathlib.Core.List.{List, _++_}
 use Prim.Native.Nat.{ℕ, _+_, _≤_}
 use native.Mathlib.Omega.{arith}
+use lib.Dec.{eqb}
 use lib.ListN.{length, take, drop, length-append}
 use lib.Seq.{length-take-le, take-append-le, take-append-add}
 use borrow.Rule.Slice.PartMut.{putMid}
 use Rattle.io.specs.Counts.{Counts}
-use Rattle.stream.specs.Came.{Grown}
+use Rattle.stream.specs.declared.Pump.{Pump}
+use Rattle.stream.specs.Came.{Grown, ReadOn}
 
 pub grown-by : (window part : List ℕ) (have count more : ℕ) → have ≤ length window
     → Counts more part → Grown window have (putMid have count window part) (have + more)
@@ -31,3 +34,11 @@ grown-by window part have count more inside counts =
             length-append part behind,
           );
     }
+
+-- where nothing came, the input has ended
+pub read-so : (old : Pump) (window window′ : List ℕ) (more : ℕ)
+    → Grown window (old .have) window′ more
+    → ReadOn old window
+    (record { run = old .run; have = more; ended = eqb more (old .have); over = false }) window′
+read-so old window window′ more grown =
+    record { grown = grown; same-run = refl; at-end = refl; goes-on = refl }
