@@ -1,11 +1,9 @@
-// Word counts: data receives of 1 to 32 words, where 0 stands for 32, each with a word too few, with
-// all its words and with a word too many.
+// Word counts: data receives of 1 to 32 words, where 0 stands for 32, each with a word too few,
+// with all its words and with a word too many.
 use crate::report;
 use crate::report::Score;
 use crate::traffic;
 use crate::traffic::Outcome;
-use terminal::actions::Answered;
-use terminal::state::Terminal;
 
 // The words that a count asks for.
 fn wants(count: u16) -> u16 {
@@ -44,24 +42,7 @@ fn prepare(ram: &mut [u16]) {
     traffic::put_cell(ram, 191, 0x4003);
 }
 
-// ---- what comes about
-
-fn feed(terminal: Terminal, ram: &mut [u16], words: u16) -> Terminal {
-    let mut left = terminal;
-    for word in 0..words {
-        left = traffic::data(left, ram, word, 120);
-    }
-    left
-}
-
-fn send(ram: &mut [u16], command: u16, words: u16) -> Answered {
-    let fresh = traffic::fresh(0);
-    let opened = traffic::command(fresh, ram, command, 100);
-    let fed = feed(opened, ram, words);
-    fed.silence(ram, 0, 140)
-}
-
-// ---- what should
+// ---- what should come about
 
 fn wanted_outcome(command: u16, more: u16) -> Outcome {
     let mut left = Outcome {
@@ -85,7 +66,7 @@ fn wanted_outcome(command: u16, more: u16) -> Outcome {
 fn store(ram: &mut [u16], words: u16) {
     for word in 0..words {
         let cell = 128 + (word % 32) as usize;
-        traffic::put_cell(ram, cell, word);
+        traffic::put_cell(ram, cell, traffic::value(word));
     }
 }
 
@@ -104,13 +85,6 @@ fn finish(ram: &mut [u16], words: u16, more: u16) {
 
 // ---- the cases
 
-fn outcome_holds(ram: &mut [u16], count: u16, more: u16) -> bool {
-    let command = 0x2860 | count;
-    let answered = send(ram, command, comes(count, more));
-    let left = traffic::outcome_of(ram, answered);
-    traffic::same_outcome(left, wanted_outcome(command, more))
-}
-
 fn holds(count: u16, more: u16) -> bool {
     let mut cells: [u16; 16384] = [0; 16384];
     let ram: &mut [u16] = &mut cells;
@@ -121,7 +95,9 @@ fn holds(count: u16, more: u16) -> bool {
     let words = stored(count, more);
     store(wanted, words);
     finish(wanted, words, more);
-    let right = outcome_holds(ram, count, more);
+    let command = 0x2860 | count;
+    let outcome = wanted_outcome(command, more);
+    let right = traffic::message_holds(ram, 0, command, comes(count, more), outcome);
     right & traffic::same_words(ram, wanted)
 }
 

@@ -1,10 +1,11 @@
 // Worked cases, run through the compiled library and compared with what they should be: a line for
 // each group, as `mode codes 256 of 256`, and a line for each case that differs. `notation` says
 // how a recording's case is written, `recordings` runs it; the groups of such cases are `example`,
-// `opening`, `words`, `faults`, `endings`, `closing` and `reader`. The other groups call the
-// library's actions: `modes` the standard's mode codes, `counts` word counts, `waiting` the queue,
-// and `rows` the refusals of `setups`, `states` and `actions`.
+// `opening`, `words`, `by_rule`, `faults`, `endings`, `closing` and `reader`. The other groups call
+// the library's actions: `modes` the standard's mode codes, `counts` word counts, `waiting` the
+// queue, and `rows` the refusals of `setups`, `states` and `actions`.
 mod actions;
+mod by_rule;
 mod closing;
 mod counts;
 mod endings;
@@ -32,10 +33,11 @@ fn recorded() -> Score {
     let first = example::run();
     let second = first.plus(opening::run());
     let third = second.plus(words::run());
-    let fourth = third.plus(faults::run());
-    let fifth = fourth.plus(endings::run());
-    let sixth = fifth.plus(closing::run());
-    sixth.plus(reader::run())
+    let fourth = third.plus(by_rule::run());
+    let fifth = fourth.plus(faults::run());
+    let sixth = fifth.plus(endings::run());
+    let seventh = sixth.plus(closing::run());
+    seventh.plus(reader::run())
 }
 
 // The cases that call the actions.

@@ -7,8 +7,6 @@ use crate::table::Row;
 use crate::traffic;
 use crate::traffic::Outcome;
 use io;
-use terminal::actions::Answered;
-use terminal::state::Terminal;
 
 // A command and what the table says of it.
 struct Case {
@@ -68,24 +66,7 @@ fn block_of(cell: u8) -> u16 {
     0
 }
 
-// ---- what comes about
-
-fn feed(terminal: Terminal, ram: &mut [u16], takes: u8) -> Terminal {
-    if takes == 1 {
-        return traffic::data(terminal, ram, 0xBEEF, 120);
-    }
-    terminal
-}
-
-fn send(ram: &mut [u16], command: u16, takes: u8) -> Answered {
-    // broadcast is enabled
-    let fresh = traffic::fresh(1);
-    let opened = traffic::command(fresh, ram, command, 100);
-    let fed = feed(opened, ram, takes);
-    fed.silence(ram, 0, 140)
-}
-
-// ---- what should
+// ---- what should come about
 
 // The station's status, with message error where the command is illegal.
 fn status_of(case: Case) -> u16 {
@@ -182,7 +163,7 @@ fn state_of(case: Case) -> u16 {
 // The word that was taken. Every code that takes one has the chain of block 2.
 fn store(ram: &mut [u16], takes: u8) {
     if takes == 1 {
-        traffic::put_cell(ram, 128, 0xBEEF);
+        traffic::put_cell(ram, 128, traffic::value(0));
     }
 }
 
@@ -202,13 +183,6 @@ fn finish(ram: &mut [u16], case: Case) {
 
 // ---- the cases
 
-fn outcome_holds(ram: &mut [u16], case: Case) -> bool {
-    let row = case.row;
-    let answered = send(ram, case.command, row.takes);
-    let left = traffic::outcome_of(ram, answered);
-    traffic::same_outcome(left, wanted_outcome(case))
-}
-
 fn holds(case: Case) -> bool {
     let mut cells: [u16; 16384] = [0; 16384];
     let ram: &mut [u16] = &mut cells;
@@ -217,7 +191,10 @@ fn holds(case: Case) -> bool {
     let wanted: &mut [u16] = &mut others;
     prepare(wanted);
     finish(wanted, case);
-    let right = outcome_holds(ram, case);
+    let row = case.row;
+    let outcome = wanted_outcome(case);
+    // broadcast is enabled
+    let right = traffic::message_holds(ram, 1, case.command, row.takes as u16, outcome);
     right & traffic::same_words(ram, wanted)
 }
 

@@ -18,9 +18,30 @@ pub fn command(terminal: Terminal, ram: &mut [u16], value: u16, time: u32) -> Te
 }
 
 // A data word, sound and joined.
-pub fn data(terminal: Terminal, ram: &mut [u16], value: u16, time: u32) -> Terminal {
+fn data(terminal: Terminal, ram: &mut [u16], value: u16, time: u32) -> Terminal {
     let left = terminal.word(ram, 12, value, time);
     left.terminal
+}
+
+// The value of a data word, by its number.
+pub fn value(word: u16) -> u16 {
+    0xA000 | word
+}
+
+fn feed(terminal: Terminal, ram: &mut [u16], words: u16) -> Terminal {
+    let mut left = terminal;
+    for word in 0..words {
+        left = data(left, ram, value(word), 120);
+    }
+    left
+}
+
+// A message on a new terminal: its command at 100, data words at 120, silence at 140.
+fn send(ram: &mut [u16], flags: u16, command_word: u16, words: u16) -> Answered {
+    let new = fresh(flags);
+    let opened = command(new, ram, command_word, 100);
+    let fed = feed(opened, ram, words);
+    fed.silence(ram, 0, 140)
 }
 
 // What a message leaves: the reply, with the count of words sent and the first of them; the
@@ -84,7 +105,7 @@ fn tell(ram: &[u16], reply: Reply) -> Told {
 }
 
 // What a silence left.
-pub fn outcome_of(ram: &[u16], answered: Answered) -> Outcome {
+fn outcome_of(ram: &[u16], answered: Answered) -> Outcome {
     let reply = answered.reply;
     let terminal = answered.terminal;
     let core = terminal.core;
@@ -101,7 +122,7 @@ pub fn outcome_of(ram: &[u16], answered: Answered) -> Outcome {
     }
 }
 
-pub fn same_outcome(first: Outcome, second: Outcome) -> bool {
+fn same_outcome(first: Outcome, second: Outcome) -> bool {
     (first.replied == second.replied)
         & (first.sent_status == second.sent_status)
         & (first.sent_count == second.sent_count)
@@ -109,6 +130,18 @@ pub fn same_outcome(first: Outcome, second: Outcome) -> bool {
         & (first.status == second.status)
         & (first.last == second.last)
         & (first.queued == second.queued)
+}
+
+// Whether a message leaves what it should, on the bus and in the terminal.
+pub fn message_holds(
+    ram: &mut [u16],
+    flags: u16,
+    command_word: u16,
+    words: u16,
+    wanted: Outcome,
+) -> bool {
+    let answered = send(ram, flags, command_word, words);
+    same_outcome(outcome_of(ram, answered), wanted)
 }
 
 pub fn same_words(first: &[u16], second: &[u16]) -> bool {

@@ -54,68 +54,91 @@ fn read_blocks(old: Reads, times: u16, first: u16, mark: u16) -> Reads {
     left
 }
 
-// So many messages on a new terminal.
-fn after_messages(ram: &mut [u16], times: u16) -> Reads {
-    let fresh = traffic::fresh(0);
-    Reads {
-        terminal: messages(fresh, ram, times),
+// A case: so many messages, so many reads, more messages, and reads of what is left, from the first
+// block or the second on; with the overflow mark or without.
+struct Case {
+    messages: u16,
+    reads: u16,
+    more: u16,
+    left: u16,
+    first: u16,
+    mark: u16,
+}
+
+fn run_case(ram: &mut [u16], case: Case) -> Reads {
+    let filled = messages(traffic::fresh(0), ram, case.messages);
+    let start = Reads {
+        terminal: filled,
         right: true,
-    }
+    };
+    let some = read_blocks(start, case.reads, 0, case.mark);
+    let terminal = some.terminal;
+    let again = Reads {
+        terminal: messages(terminal, ram, case.more),
+        right: some.right,
+    };
+    read_blocks(again, case.left, case.first, case.mark)
 }
 
-fn empty_holds() -> bool {
+// Then the queue is empty.
+fn holds(case: Case) -> bool {
     let mut cells: [u16; 16384] = [0; 16384];
     let ram: &mut [u16] = &mut cells;
     prepare(ram);
-    let none = after_messages(ram, 0);
-    let left = read(none, 0);
-    left.right
+    let blocks = run_case(ram, case);
+    let empty = read(blocks, case.mark);
+    let still = read(empty, case.mark);
+    still.right
 }
 
-fn full_holds() -> bool {
-    let mut cells: [u16; 16384] = [0; 16384];
-    let ram: &mut [u16] = &mut cells;
-    prepare(ram);
-    let full = after_messages(ram, 256);
-    let blocks = read_blocks(full, 256, 0, 0);
-    let left = read(blocks, 0);
-    left.right
+fn judge(score: Score, case: Case) -> Score {
+    report::judge(score, b"queue", holds(case))
 }
+
+const EMPTY: Case = Case {
+    messages: 0,
+    reads: 0,
+    more: 0,
+    left: 0,
+    first: 0,
+    mark: 0,
+};
+
+const FULL: Case = Case {
+    messages: 256,
+    reads: 0,
+    more: 0,
+    left: 256,
+    first: 0,
+    mark: 0,
+};
 
 // The 257th is lost, and overflow is never cleared.
-fn overflow_holds() -> bool {
-    let mut cells: [u16; 16384] = [0; 16384];
-    let ram: &mut [u16] = &mut cells;
-    prepare(ram);
-    let full = after_messages(ram, 257);
-    let blocks = read_blocks(full, 256, 0, 0x0400);
-    let once = read(blocks, 0x0400);
-    let left = read(once, 0x0400);
-    left.right
-}
+const OVERFLOW: Case = Case {
+    messages: 257,
+    reads: 0,
+    more: 0,
+    left: 256,
+    first: 0,
+    mark: 0x0400,
+};
 
-fn freed_holds() -> bool {
-    let mut cells: [u16; 16384] = [0; 16384];
-    let ram: &mut [u16] = &mut cells;
-    prepare(ram);
-    let full = after_messages(ram, 256);
-    let three = read_blocks(full, 3, 0, 0);
-    let terminal = three.terminal;
-    let more = Reads {
-        terminal: messages(terminal, ram, 3),
-        right: three.right,
-    };
-    let blocks = read_blocks(more, 256, 1, 0);
-    let left = read(blocks, 0);
-    left.right
-}
+// Freed places are used again.
+const FREED: Case = Case {
+    messages: 256,
+    reads: 3,
+    more: 3,
+    left: 256,
+    first: 1,
+    mark: 0,
+};
 
 pub fn run() -> Score {
     let none = Score::none();
-    let first = report::judge(none, b"queue", empty_holds());
-    let second = report::judge(first, b"queue", full_holds());
-    let third = report::judge(second, b"queue", overflow_holds());
-    let fourth = report::judge(third, b"queue", freed_holds());
+    let first = judge(none, EMPTY);
+    let second = judge(first, FULL);
+    let third = judge(second, OVERFLOW);
+    let fourth = judge(third, FREED);
     report::print_score(b"queue", fourth);
     fourth
 }

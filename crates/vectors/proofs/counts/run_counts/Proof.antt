@@ -1,4 +1,5 @@
--- `vectors::counts::run_counts` meets its contract. Assumes nothing.
+-- `vectors::counts::run_counts` meets its contract. The measure is the cases left. Assumes
+-- nothing.
 use Prim.Native.Nat.{_-_}
 use borrow.Author.Needs.{needs}
 use Rattle.vectors.proofs.counts.run_counts.Statement.{statement}

@@ -22,6 +22,9 @@ cast-cell c = search needs
 add-cell : tie.Need-add-cell Inv-loop μ-loop
 add-cell c = search needs
 
+value-requires : tie.Need-value-requires Inv-loop μ-loop
+value-requires c κs = search needs
+
 put-cell-requires : tie.Need-put-cell-requires Inv-loop μ-loop
 put-cell-requires c κs = search needs
 
@@ -49,6 +52,7 @@ store-spec =
     loop-holds
     cast-cell
     add-cell
+    value-requires
     put-cell-requires
     add-word
     loop-less

@@ -1,4 +1,5 @@
--- `vectors::modes::run_table` meets its contract. Assumes nothing.
+-- `vectors::modes::run_table` meets its contract. The measure is the commands left. Assumes
+-- nothing.
 use Prim.Native.Nat.{_-_}
 use borrow.Author.Needs.{needs}
 use Rattle.vectors.proofs.modes.run_table.Statement.{statement}

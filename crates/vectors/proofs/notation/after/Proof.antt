@@ -1,4 +1,5 @@
--- `vectors::notation::after` meets its contract. Assumes nothing.
+-- `vectors::notation::after` meets its contract. The measure is what is left of the text. Assumes
+-- nothing.
 use Prim.Native.Nat.{_-_}
 use lib.ListN.{length}
 use borrow.Author.Needs.{needs}

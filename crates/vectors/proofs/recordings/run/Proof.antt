@@ -1,4 +1,5 @@
--- `vectors::recordings::run` meets its contract. Assumes nothing.
+-- `vectors::recordings::run` meets its contract. The loop turns at most as often as the text has
+-- bytes. Assumes nothing.
 use borrow.Author.Needs.{needs}
 use Rattle.vectors.proofs.recordings.run.Statement.{statement}
 use Rattle.vectors.proofs.recordings.run.Tie as tie

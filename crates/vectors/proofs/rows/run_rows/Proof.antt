@@ -1,4 +1,5 @@
--- `vectors::rows::run_rows` meets its contract. Assumes nothing.
+-- `vectors::rows::run_rows` meets its contract. The loop turns at most as often as the rows have
+-- bytes. Assumes nothing.
 use borrow.Author.Needs.{needs}
 use Rattle.vectors.proofs.rows.run_rows.Statement.{statement}
 use Rattle.vectors.proofs.rows.run_rows.Tie as tie

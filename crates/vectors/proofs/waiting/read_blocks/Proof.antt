@@ -1,4 +1,5 @@
--- `vectors::waiting::read_blocks` meets its contract. Assumes nothing.
+-- `vectors::waiting::read_blocks` meets its contract. The measure is the reads left. Assumes
+-- nothing.
 use Prim.Native.Nat.{_-_}
 use borrow.Author.Needs.{needs}
 use Rattle.vectors.proofs.waiting.read_blocks.Statement.{statement}

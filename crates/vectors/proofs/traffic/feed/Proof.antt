@@ -1,11 +1,11 @@
--- `vectors::counts::feed` meets its contract. The loop keeps the length of the card. Assumes
+-- `vectors::traffic::feed` meets its contract. The loop keeps the length of the card. Assumes
 -- nothing.
 use mathlib.Core.Path.{_≡_}
 use Prim.Native.Nat.{_-_}
 use lib.ListN.{length}
 use borrow.Author.Needs.{needs}
-use Rattle.vectors.proofs.counts.feed.Statement.{statement}
-use Rattle.vectors.proofs.counts.feed.Tie as tie
+use Rattle.vectors.proofs.traffic.feed.Statement.{statement}
+use Rattle.vectors.proofs.traffic.feed.Tie as tie
 
 abbrev Inv-loop : tie.InvT-loop
 Inv-loop ram₀ words left₀ word₀ ram left word = length ram ≡ length ram₀
@@ -15,6 +15,9 @@ abbrev μ-loop : tie.MeasureT-loop
 
 loop-holds : tie.Need-loop-holds Inv-loop μ-loop
 loop-holds c = search needs
+
+value-requires : tie.Need-value-requires Inv-loop μ-loop
+value-requires c κs = search needs
 
 data-requires : tie.Need-data-requires Inv-loop μ-loop
 data-requires c κs = search needs
@@ -41,6 +44,7 @@ feed-spec =
     Inv-loop
     μ-loop
     loop-holds
+    value-requires
     data-requires
     add-word
     loop-less
