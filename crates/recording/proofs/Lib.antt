@@ -4,6 +4,7 @@
 --     ReadingLaws    the reader's order on each way that the code takes
 --     WordsLaws      the words of a host write, one by one
 --     TakenLaws      what a reading tells: where a field ends, whom a refusal names
+--     FoundLaws      a word field that is looked for is what the reader reads
 --     InOrder        every field that is taken is in order
 --     MoreBytes      bytes that come behind change no reading that is settled
 --     TakenWords     the words of a host write that was taken
@@ -15,6 +16,7 @@ pub mod FieldLaws
 pub mod ReadingLaws
 pub mod WordsLaws
 pub mod TakenLaws
+pub mod FoundLaws
 pub mod InOrder
 pub mod MoreBytes
 pub mod TakenWords

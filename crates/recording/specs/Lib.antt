@@ -2,4 +2,5 @@
 pub mod Bytes
 pub mod Field
 pub mod Reading
+pub mod Found
 pub mod Pieces

@@ -18,6 +18,7 @@ ghost use Rattle.recording.specs.Field.{
   ValueThere,
 };
 ghost use Rattle.recording.specs.Reading.{readAt};
+ghost use Rattle.recording.specs.Found.{wordFound};
 
 // What a field holds, in the order of the tags 01 to 07.
 pub enum Field {
@@ -59,6 +60,14 @@ pub enum Reading {
     End,
     // the number of the refusal, and the field's first byte
     Refused { number: u8, place: usize },
+}
+
+// What is found where a word field with certain marks is looked for.
+pub enum Found {
+    // its value, and where the next field begins
+    Value { value: u16, next: usize },
+    // no whole such field
+    Nothing,
 }
 
 // ---- numbers out of bytes, high byte first
@@ -314,6 +323,27 @@ pub fn read_field(bytes: &[u8], place: usize, begun: bool) -> Reading
     Reading::Taken {
         field: field,
         next: place + 3 + size,
+    }
+}
+
+// Looks for a word field with these marks alone. A row of such fields is read faster so.
+pub fn find_word(bytes: &[u8], place: usize, marks: u8) -> Found
+    ensures { λ found. ⌜ found ≡ wordFound (now (bytes .entry)) place marks ⌝ }
+{
+    if bytes_left(bytes, place) < 10 {
+        return Found::Nothing;
+    }
+    let tag = bytes[place];
+    let high = bytes[place + 1];
+    let low = bytes[place + 2];
+    let found = bytes[place + 3];
+    let starts = (tag == 2) & (high == 0) & (low == 7) & (found == marks);
+    if !starts {
+        return Found::Nothing;
+    }
+    Found::Value {
+        value: word_at(bytes, place + 4),
+        next: place + 10,
     }
 }
 

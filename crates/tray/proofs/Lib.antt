@@ -2,6 +2,7 @@
 --     HappenLaws    what a field tells comes about: a law for each kind of field
 --     LineLaws      the line of an answer, and the last line
 --     TurnLaws      one field of a window, as the code takes it
+--     RowLaws       a row of data words is as many turns
 --     LoopLaws      field after field
 --     KeepLaws      what is left of a window moves to its front
 --     PrintedLaws   what is printed goes field by field
@@ -13,6 +14,7 @@
 pub mod HappenLaws
 pub mod LineLaws
 pub mod TurnLaws
+pub mod RowLaws
 pub mod LoopLaws
 pub mod KeepLaws
 pub mod PrintedLaws

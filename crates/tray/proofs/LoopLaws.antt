@@ -1,13 +1,25 @@
 -- The loop of `run_window`: what is left of the turns leads from where it is to where the whole
 -- call leads. Assumes nothing.
 use mathlib.Core.Path.{_≡_, refl, sym, ap, _∙_}
-use mathlib.Core.Bool.{Bool, true, false, not}
+use mathlib.Core.Bool.{Bool, true, false, true≢false, not}
 use mathlib.Core.List.{List}
 use Prim.Native.Nat.{ℕ, zero, suc, _-_, _≤_, _<_}
 use native.Mathlib.Omega.{arith}
 use lib.ListN.{length}
 use borrow.Author.Tests.{not-true, not-false}
+use Rattle.tray.specs.declared.Ran.{Ran}
+use Rattle.tray.specs.declared.Stop.{Stop}
+use Rattle.tray.specs.declared.Stop.the-variants.{Going, Hungry, Full, Over}
 use Rattle.tray.specs.Window.{Passed, isGoing, turn, turns}
+use Rattle.tray.specs.Held.{passedOf}
+use Rattle.tray.specs.Row.{RowTaken}
+use Rattle.tray.proofs.RowLaws.{one-turn, turn-left, fewer-left}
+
+going-is : (stop : Stop) → isGoing stop ≡ true → stop ≡ Going
+going-is Going going = refl
+going-is Hungry going = absurd (true≢false (sym going))
+going-is Full going = absurd (true≢false (sym going))
+going-is Over going = absurd (true≢false (sym going))
 
 pub record Leads (window : List ℕ) (last : Bool) (start : Passed) (most : ℕ) (old : Passed)
     (left : ℕ) : Type 0 where
@@ -20,26 +32,6 @@ module _ (window : List ℕ) (last : Bool) (start : Passed) (most : ℕ) where
   leads-at-start = record { leads = refl; ram-as-long = refl; out-as-long = refl }
 
   module _ (old : Passed) where
-    -- a turn more
-    pub leads-on : (left : ℕ) (going : Bool) (new : Passed)
-        → Leads window last start most old left
-        → 0 < left → going ≡ isGoing (old .stop) → not going ≡ false
-        → new ≡ turn window last old
-        → length (new .tray .card .ram) ≡ length (old .tray .card .ram)
-        → length (new .out) ≡ length (old .out)
-        → Leads window last start most new (left - 1)
-    unfolding turns
-    leads-on zero going new so-far some is-going goes is-new ram-long out-long =
-        absurd (omega (arith, some))
-    leads-on (suc left) going new so-far some is-going goes is-new ram-long out-long =
-        let one-less : suc left - 1 ≡ left = omega arith in
-        record {
-          leads =
-              rw (one-less, is-new) (rw (← is-going, not-false going goes) at (so-far .leads));
-          ram-as-long = ram-long ∙ so-far .ram-as-long;
-          out-as-long = out-long ∙ so-far .out-as-long;
-        }
-
     -- it has stopped
     pub leads-stopped : (left : ℕ) (going : Bool) → Leads window last start most old left
         → going ≡ isGoing (old .stop) → not going ≡ true
@@ -56,4 +48,38 @@ module _ (window : List ℕ) (last : Bool) (start : Passed) (most : ℕ) where
     leads-done zero so-far none = so-far .leads
     leads-done (suc left) so-far none = absurd (omega (arith, none))
 
-pub ruleset leading = (leads-at-start, leads-on, leads-stopped, leads-done)
+  -- a row of data words, and a turn more
+  module _ (old next : Ran) (places ram out ram′ : List ℕ) (room left left′ : ℕ) where
+    pub leads-on : (going : Bool) (new : Passed)
+        → Leads window last start most (passedOf old places ram out) left
+        → 0 < left → going ≡ isGoing (old .stop) → not going ≡ false
+        → room ≡ length out - old .put
+        → RowTaken window room left old ram left′ next ram′
+        → new ≡ turn window last (passedOf next places ram′ out)
+        → length ram′ ≡ length ram
+        → length (new .tray .card .ram) ≡ length ram′
+        → length (new .out) ≡ length out
+        → Leads window last start most new (left′ - 1)
+    leads-on going new so-far some is-going goes is-room row is-new row-long ram-long out-long =
+        let is : old .stop ≡ Going =
+        going-is (old .stop) (sym is-going ∙ not-false going goes) in
+        let one : suc (left′ - 1) ≡ left′ = omega (arith, row .some-left some) in
+        record {
+          leads =
+              one-turn window last (left′ - 1) (passedOf next places ram′ out) new
+              (row .going ∙ is) (sym is-new)
+              ∙ ap (λ (any : ℕ). turns any window last (passedOf next places ram′ out)) one
+              ∙ row .leads last places out is-room is
+              ∙ so-far .leads;
+          ram-as-long = ram-long ∙ row-long ∙ so-far .ram-as-long;
+          out-as-long = out-long ∙ so-far .out-as-long;
+        }
+
+pub ruleset leading = (
+  leads-at-start,
+  leads-on,
+  leads-stopped,
+  leads-done,
+  turn-left,
+  fewer-left,
+)

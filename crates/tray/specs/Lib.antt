@@ -3,5 +3,6 @@ pub mod Happening
 pub mod Run
 pub mod Window
 pub mod Held
+pub mod Row
 pub mod Pieces
 pub mod OneBlock

@@ -1,0 +1,121 @@
+-- The laws of `specs/Found.antt`: what is found on each way that the code takes, and that a word
+-- field which is found is what the reader reads there (`found-is-read`). Assumes nothing.
+use mathlib.Core.Path.{_≡_, refl, subst}
+use mathlib.Core.Bool.{Bool, true, false, not, _&&_}
+use mathlib.Core.List.{List}
+use Prim.Native.Nat.{ℕ, _+_, _≤_, _<_}
+use native.Mathlib.Omega.{arith}
+use lib.Dec.{eqb, leb, ltb}
+use borrow.Author.Tests.{
+  eqb-true,
+  ne-eqb,
+  leb-true,
+  le-leb,
+  lt-leb,
+  le-ltb,
+  not-true,
+  not-false,
+}
+use Rattle.recording.specs.declared.Field.the-variants.{Word}
+use Rattle.recording.specs.declared.Found.{Found}
+use Rattle.recording.specs.declared.Found.the-variants.{Value, Nothing}
+use Rattle.recording.specs.declared.Reading.the-variants.{Taken}
+use Rattle.recording.specs.Bytes.{bytesLeft, byteAt, wordAt, timeAt}
+use Rattle.recording.specs.Field.{isTag, lengthFits, fieldAt, valueRefusal}
+use Rattle.recording.specs.Reading.{readAt}
+use Rattle.recording.specs.Found.{startsWord, wordFound}
+use Rattle.recording.proofs.Choices.{by-test, both-of}
+
+-- ---- as the code looks
+
+module _ (bytes : List ℕ) (place marks left : ℕ) (is-left : left ≡ bytesLeft bytes place) where
+  pub found-short : left < 10 → Nothing ≡ wordFound bytes place marks
+  unfolding wordFound
+  found-short short = rw (lt-leb 10 (bytesLeft bytes place) (omega arith))
+
+  module _ (whole : 10 ≤ left) where
+    long : leb 10 (bytesLeft bytes place) ≡ true
+    long = le-leb 10 (bytesLeft bytes place) (omega arith)
+
+    pub found-other : not (startsWord bytes place marks) ≡ true
+        → Nothing ≡ wordFound bytes place marks
+    unfolding wordFound
+    found-other other = rw (long, not-true (startsWord bytes place marks) other)
+
+    pub found-word : (value : ℕ) → not (startsWord bytes place marks) ≡ false
+        → value ≡ wordAt bytes (place + 4)
+        → Value value (place + 10) ≡ wordFound bytes place marks
+    unfolding wordFound
+    found-word value is is-value = rw (long, not-false (startsWord bytes place marks) is, is-value)
+
+pub ruleset finding = (found-short, found-other, found-word)
+
+-- ---- what is found is read
+
+module _ (bytes : List ℕ) (place marks : ℕ) (few : marks ≤ 15) where
+  -- a word field that starts there whole is taken, once a setup has been read
+  starts-is-read : 10 ≤ bytesLeft bytes place → byteAt bytes place ≡ 2
+      → byteAt bytes (place + 1) ≡ 0 → byteAt bytes (place + 2) ≡ 7
+      → byteAt bytes (place + 3) ≡ marks
+      → readAt bytes place true
+      ≡ Taken (Word marks (wordAt bytes (place + 4)) (timeAt bytes (place + 6))) (place + 10)
+  unfolding readAt lengthFits fieldAt
+  starts-is-read whole tag high low marked =
+      let second : place + 1 + 1 ≡ place + 2 = omega arith in
+      let some : eqb (bytesLeft bytes place) 0 ≡ false =
+      ne-eqb (bytesLeft bytes place) 0 (λ none. absurd (omega (arith, whole, none))) in
+      let first : ltb (bytesLeft bytes place) 3 ≡ false =
+      le-ltb (bytesLeft bytes place) 3 (omega (arith, whole)) in
+      let all : ltb (bytesLeft bytes place) 10 ≡ false =
+      le-ltb (bytesLeft bytes place) 10 whole in
+      let in-order : ltb 15 marks ≡ false = le-ltb 15 marks few in
+      let value : place + 3 + 1 ≡ place + 4 = omega arith in
+      let time : place + 3 + 3 ≡ place + 6 = omega arith in
+      let next : place + 3 + 7 ≡ place + 10 = omega arith in
+      rw (some, tag, first, second, high, low, all, marked, in-order, value, time, next)
+
+  abbrev Read : Found → Type 0
+  Read (Value value next) =
+      (next ≡ place + 10)
+      × (readAt bytes place true ≡ Taken (Word marks value (timeAt bytes (place + 6))) next)
+  Read Nothing = place ≡ place
+
+  found-tells : Read (wordFound bytes place marks)
+  unfolding wordFound
+  found-tells =
+      by-test Read (leb 10 (bytesLeft bytes place) && startsWord bytes place marks)
+      (λ is. go is) (λ _. refl)
+    where
+      tag : Bool
+      tag = eqb (byteAt bytes place) 2
+
+      high : Bool
+      high = eqb (byteAt bytes (place + 1)) 0
+
+      low : Bool
+      low = eqb (byteAt bytes (place + 2)) 7
+
+      marked : Bool
+      marked = eqb (byteAt bytes (place + 3)) marks
+
+      go : leb 10 (bytesLeft bytes place) && (tag && high && low && marked) ≡ true
+          → Read (Value (wordAt bytes (place + 4)) (place + 10))
+      go is =
+          let first = both-of (leb 10 (bytesLeft bytes place)) (tag && high && low && marked) is in
+          let second = both-of (tag && high && low) marked (first .1) in
+          let third = both-of (tag && high) low (second .0) in
+          let fourth = both-of tag high (third .0) in
+          (refl,
+          starts-is-read (leb-true 10 (bytesLeft bytes place) (first .0))
+          (eqb-true (byteAt bytes place) 2 (fourth .0))
+          (eqb-true (byteAt bytes (place + 1)) 0 (fourth .1))
+          (eqb-true (byteAt bytes (place + 2)) 7 (third .1))
+          (eqb-true (byteAt bytes (place + 3)) marks (second .1)))
+
+  module _ {value next : ℕ} (is : wordFound bytes place marks ≡ Value value next) where
+    pub found-is-read :
+        readAt bytes place true ≡ Taken (Word marks value (timeAt bytes (place + 6))) next
+    found-is-read = subst Read is found-tells .1
+
+    pub found-moves-on : next ≡ place + 10
+    found-moves-on = subst Read is found-tells .0
