@@ -104,13 +104,14 @@ module _ (bytes : List ℕ) (place marks : ℕ) (few : marks ≤ 15) where
           let first = both-of (leb 10 (bytesLeft bytes place)) (tag && high && low && marked) is in
           let second = both-of (tag && high && low) marked (first .1) in
           let third = both-of (tag && high) low (second .0) in
-          let fourth = both-of tag high (third .0) in
-          (refl,
-          starts-is-read (leb-true 10 (bytesLeft bytes place) (first .0))
-          (eqb-true (byteAt bytes place) 2 (fourth .0))
-          (eqb-true (byteAt bytes (place + 1)) 0 (fourth .1))
-          (eqb-true (byteAt bytes (place + 2)) 7 (third .1))
-          (eqb-true (byteAt bytes (place + 3)) marks (second .1)))
+          let fourth = both-of tag high (third .0) in (
+            refl,
+            starts-is-read (leb-true 10 (bytesLeft bytes place) (first .0))
+                (eqb-true (byteAt bytes place) 2 (fourth .0))
+                (eqb-true (byteAt bytes (place + 1)) 0 (fourth .1))
+                (eqb-true (byteAt bytes (place + 2)) 7 (third .1))
+                (eqb-true (byteAt bytes (place + 3)) marks (second .1)),
+          )
 
   module _ {value next : ℕ} (is : wordFound bytes place marks ≡ Value value next) where
     pub found-is-read :

@@ -2,7 +2,9 @@
 --     HappenLaws    what a field tells comes about: a law for each kind of field
 --     LineLaws      the line of an answer, and the last line
 --     TurnLaws      one field of a window, as the code takes it
---     RowLaws       a row of data words is as many turns
+--     RowLaws       a row of data words, as the code takes it
+--     WordTurns     a data word that is wanted is a turn
+--     RowTurns      a row of data words is as many turns
 --     LoopLaws      field after field
 --     KeepLaws      what is left of a window moves to its front
 --     PrintedLaws   what is printed goes field by field
@@ -15,6 +17,8 @@ pub mod HappenLaws
 pub mod LineLaws
 pub mod TurnLaws
 pub mod RowLaws
+pub mod WordTurns
+pub mod RowTurns
 pub mod LoopLaws
 pub mod KeepLaws
 pub mod PrintedLaws

@@ -13,7 +13,8 @@ use Rattle.tray.specs.declared.Stop.the-variants.{Going, Hungry, Full, O
 use Rattle.tray.specs.Window.{Passed, isGoing, turn, turns}
 use Rattle.tray.specs.Held.{passedOf}
 use Rattle.tray.specs.Row.{RowTaken}
-use Rattle.tray.proofs.RowLaws.{one-turn, turn-left, fewer-left}
+use Rattle.tray.proofs.WordTurns.{one-turn}
+use Rattle.tray.proofs.RowTurns.{turn-left, fewer-left}
 
 going-is : (stop : Stop) → isGoing stop ≡ true → stop ≡ Going
 going-is Going going = refl

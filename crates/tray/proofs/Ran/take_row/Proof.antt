@@ -1,7 +1,7 @@
 -- `tray::Ran::take_row` meets its contract: a row of data words is as many turns. Assumes nothing.
 use mathlib.Core.Path.{refl}
 use borrow.Author.Needs.{needs}
-use Rattle.tray.proofs.RowLaws.{rows, words-fit, row-taken}
+use Rattle.tray.proofs.RowTurns.{rows, words-fit, row-taken}
 use Rattle.tray.proofs.Ran.take_row.Statement.{statement}
 use Rattle.tray.proofs.Ran.take_row.Tie as tie
 
