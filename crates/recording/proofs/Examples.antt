@@ -13,10 +13,12 @@ use Rattle.recording.specs.declared.Field.the-variants.{
   Table,
   Flags,
 }
+use Rattle.recording.specs.declared.Found.the-variants.{Value, Nothing}
 use Rattle.recording.specs.declared.Reading.the-variants.{Taken, End, Refused}
 use Rattle.recording.specs.Bytes.{wordsAt, withWords}
 use Rattle.recording.specs.Field.{lengthFits, fieldAt}
 use Rattle.recording.specs.Reading.{readAt}
+use Rattle.recording.specs.Found.{wordFound}
 use Rattle.recording.specs.Pieces.{isSettled, shifted}
 
 -- ---- document 01's run, field by field
@@ -289,6 +291,20 @@ another-tag-waits-for-nothing = refl
 reading-on : readAt tape 13 true ≡ shifted 6 (readAt (drop 6 tape) 7 true)
 unfolding readAt lengthFits fieldAt
 reading-on = refl
+
+-- ---- a word looked for by its marks
+
+a-data-word-is-found : wordFound first-word 0 0x0C ≡ Value 0x1111 10
+unfolding wordFound
+a-data-word-is-found = refl
+
+it-is-not-found-on-line-B : wordFound first-word 0 0x0D ≡ Nothing
+unfolding wordFound
+it-is-not-found-on-line-B = refl
+
+nor-without-its-last-byte : wordFound (take 9 first-word) 0 0x0C ≡ Nothing
+unfolding wordFound
+nor-without-its-last-byte = refl
 
 -- ---- a copy of words
 

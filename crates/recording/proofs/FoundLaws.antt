@@ -21,7 +21,7 @@ use Rattle.recording.specs.declared.Found.{Found}
 use Rattle.recording.specs.declared.Found.the-variants.{Value, Nothing}
 use Rattle.recording.specs.declared.Reading.the-variants.{Taken}
 use Rattle.recording.specs.Bytes.{bytesLeft, byteAt, wordAt, timeAt}
-use Rattle.recording.specs.Field.{isTag, lengthFits, fieldAt, valueRefusal}
+use Rattle.recording.specs.Field.{lengthFits, fieldAt}
 use Rattle.recording.specs.Reading.{readAt}
 use Rattle.recording.specs.Found.{startsWord, wordFound}
 use Rattle.recording.proofs.Choices.{by-test, both-of}
