@@ -20,7 +20,7 @@ pub record Reached (start : Tray) (ended : Bool) (new : Tray) (window : List ℕ
   pub text : List ℕ
   pub streamed : Streamed start ended input text new window
 
--- the run is finished, or it broke off where its lines were not taken
+-- the run is finished, or it broke off on the way
 pub data Came (start new : Tray) : Type 0 where
   finished : {input text : List ℕ} → Finished start input text new → Came start new
   broken-off : {ended : Bool} {window : List ℕ} → Reached start ended new window → Came start new
