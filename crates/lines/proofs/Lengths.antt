@@ -52,10 +52,13 @@ pub length-status-line : (status : ℕ) (words : List ℕ) → length words ≤ 
     → length (statusLine status words) ≤ lineRoom
 length-status-line status words few = omega (arith, status-bytes status words)
 
-pub length-queue-line : (word : ℕ) → length (queueLine word) ≤ lineRoom
+pub queue-bytes : (word : ℕ) → length (queueLine word) ≡ 7
 unfolding queueLine
-length-queue-line word =
+queue-bytes word =
     omega (arith, length-append (hexWord word) (newline ∷ []), length-hex-word word)
+
+pub length-queue-line : (word : ℕ) → length (queueLine word) ≤ lineRoom
+length-queue-line word = omega (arith, queue-bytes word)
 
 pub length-end-line : (fields : ℕ) → length (endLine fields) ≤ lineRoom
 unfolding endLine

@@ -6,7 +6,7 @@ use Prim.Native.Nat.{ℕ, _+_, _-_, _≤_, _<_, max}
 use native.Mathlib.Decide.{decLe}
 use native.Mathlib.Omega.{arith}
 use lib.ListN.{length, take, drop, length-append}
-use lib.Seq.{sets-eq, length-sets, length-take-le, take-at}
+use lib.Seq.{sets-eq, length-sets, length-take-le, take-at, drop-at}
 use borrow.Author.Tests.{le-leb, lt-leb}
 use Rattle.lines.specs.Lines.{statusLine}
 use Rattle.lines.specs.Written.{
@@ -41,6 +41,16 @@ module _ (room : ℕ) (out : List ℕ) (at : ℕ) (text : List ℕ) where
       omega (arith, length-append (take at out) text, length-take-le at out inside) in
       rw (in-room enough, sets-eq text out at (omega arith))
       (take-at (take at out ++ text) (drop (at + length text) out) (at + length text) front)
+
+  -- .. and behind it all is as it was
+  pub drop-written : at ≤ length out → room ≤ length out - at → length text ≤ room
+      → drop (written room out at text .next) (written room out at text .bytes)
+      ≡ drop (written room out at text .next) out
+  unfolding stored
+  drop-written inside enough fits =
+      rw (in-room enough, sets-eq text out at (omega arith))
+      (drop-at (take at out ++ text) (drop (at + length text) out) (at + length text)
+      (omega (arith, length-append (take at out) text, length-take-le at out inside)))
 
   pub length-written : length (written room out at text .bytes) ≡ length out
   unfolding stored

@@ -3,10 +3,8 @@
 use mathlib.Core.Path.{_≡_, refl}
 use mathlib.Core.List.{List, [], _∷_, _++_, map}
 use Prim.Native.Nat.{ℕ, zero, suc, _/_, _%_}
-use lib.ListN.{length, getD, drop}
+use lib.ListN.{getD}
 use Rattle.terminal.specs.State.{Card}
-use Rattle.recording.specs.declared.Reading.{Reading}
-use Rattle.recording.specs.declared.Reading.the-variants.{Taken, End, Refused}
 use Rattle.recording.specs.Field.{lengthFits, fieldAt}
 use Rattle.recording.specs.Reading.{readAt}
 use Rattle.lines.specs.Digits.{hexDigit, hexWord, decimalBy, decimal}
@@ -14,15 +12,14 @@ use Rattle.lines.specs.Lines.{eachWord, statusLine, queueLine, endLine, refusal
 use Rattle.runs.proofs.Telling.{runs}
 use Rattle.tray.specs.Happening.{happeningOf, happened}
 use Rattle.tray.specs.Run.{
-  Tray,
   trayAtStart,
   lastLine,
   taking,
   takingLine,
-  printedOf,
-  printedBy,
-  printedFrom,
-  printed,
+  Whole,
+  wholeOf,
+  wholeBy,
+  wholeFrom,
 }
 
 -- ---- recordings, field by field
@@ -62,21 +59,6 @@ twoWords address first second = 5 ∷ pair 6 ++ (pair address ++ (pair first ++ 
 abbrev times : ℕ → List ℕ → List ℕ
 times zero bytes = []
 times (suc count) bytes = bytes ++ times count bytes
-
--- ---- what a recording leaves
-
--- how far the run comes
-abbrev leftOf : Reading → (Tray → List ℕ → Tray) → Tray → List ℕ → Tray
-leftOf (Taken field next) rest old bytes = rest (taking bytes field next old) (drop next bytes)
-leftOf End rest old bytes = old
-leftOf (Refused number place) rest old bytes = old
-
-unfoldable leftBy : ℕ → Tray → List ℕ → Tray
-leftBy zero old bytes = old
-leftBy (suc fields) old bytes = leftOf (readAt bytes 0 (old .begun)) (leftBy fields) old bytes
-
-abbrev left : List ℕ → Card
-left bytes = leftBy (suc (length bytes)) trayAtStart bytes .card
 
 -- ---- the table
 
@@ -171,14 +153,15 @@ marked =
 -- what is found where the table says what is wanted
 abbrev found : Case → Case
 found wanted =
-    let card : Card = left (wanted .recording) in
-    case (wanted .recording) (printed (wanted .recording)) (card .core .status)
+    let all : Whole = wholeFrom trayAtStart (wanted .recording) in
+    let card : Card = all .tray .card in
+    case (wanted .recording) (all .text) (card .core .status)
     (map (λ (at : Cell). cell (at .address) (getD (card .ram) (at .address) 0)) (wanted .cells))
 
 -- to unfold `all` is to unfold a tray run, from bytes to text
 unfoldable all : ℕ
 unfolding runs readAt lengthFits fieldAt happeningOf happened trayAtStart lastLine taking takingLine
-    printedOf printedBy printedFrom printed leftBy hexDigit hexWord decimalBy decimal eachWord
+    wholeOf wholeBy wholeFrom hexDigit hexWord decimalBy decimal eachWord
     statusLine queueLine endLine refusalLine marked
 all = 0
 

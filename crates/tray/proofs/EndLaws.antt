@@ -44,16 +44,16 @@ hungry-going same = let z : _≡_ {A = ℕ} 0 1 = cc in omega arith
 hungry-full : Hungry ≢ Full
 hungry-full same = let z : _≡_ {A = ℕ} 0 1 = cc in omega arith
 
-over-going : Over ≢ Going
+pub over-going : Over ≢ Going
 over-going same = let z : _≡_ {A = ℕ} 0 1 = cc in omega arith
 
-over-full : Over ≢ Full
+pub over-full : Over ≢ Full
 over-full same = let z : _≡_ {A = ℕ} 0 1 = cc in omega arith
 
-full-going : Full ≢ Going
+pub full-going : Full ≢ Going
 full-going same = let z : _≡_ {A = ℕ} 0 1 = cc in omega arith
 
-going-full : Going ≢ Full
+pub going-full : Going ≢ Full
 going-full same = let z : _≡_ {A = ℕ} 0 1 = cc in omega arith
 
 is-going : (stop : Stop) → isGoing stop ≡ true → stop ≡ Going
@@ -64,7 +64,7 @@ is-going Over is = absurd (let z : _≡_ {A = ℕ} 0 1 = cc in omega arith)
 
 module _ (window : List ℕ) (last : Bool) where
   -- what every turn keeps, a call keeps
-  turns-keep : (Claim : Passed → Type 0)
+  pub turns-keep : (Claim : Passed → Type 0)
       → ((old : Passed) → old .stop ≡ Going → Claim old → Claim (turn window last old))
       → (most : ℕ) (old : Passed) → Claim old → Claim (turns most window last old)
   unfolding turns
@@ -87,7 +87,7 @@ module _ (window : List ℕ) (last : Bool) where
         by-stop Over is on = as-is Over is holds
 
   -- a turn that is not full goes by its reading
-  by-turn : (Claim : Passed → Type 0) (old : Passed)
+  pub by-turn : (Claim : Passed → Type 0) (old : Passed)
       → (length (old .out) - old .put < lineRoom
       → Claim (stopping Full old))
       → ((reading : Reading) → readAt window (old .at) (old .tray .begun) ≡ reading

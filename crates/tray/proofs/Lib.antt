@@ -10,6 +10,7 @@
 --     PrintedLaws   what is printed goes field by field
 --     WindowLaws    a call prints its part, whatever comes behind
 --     EndLaws       a call comes to an end
+--     RoomLaws      a buffer with room for a whole recording holds all its lines
 --     PieceLaws     any pieces print what the whole prints
 --     OneBlock      one broken message costs one block, over recordings
 --     Determined    each public contract allows one outcome alone
@@ -24,6 +25,7 @@ pub mod KeepLaws
 pub mod PrintedLaws
 pub mod WindowLaws
 pub mod EndLaws
+pub mod RoomLaws
 pub mod PieceLaws
 pub mod OneBlock
 pub mod Determined

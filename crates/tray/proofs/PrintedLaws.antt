@@ -1,5 +1,5 @@
--- The laws of `specs/Run.antt`: what is printed goes field by field, however many turns are
--- allowed, and no line is longer than the room that it is given. Assumes nothing.
+-- The laws of `specs/Run.antt`: a run goes field by field, however many turns are allowed, and no
+-- line is longer than the room that it is given. Assumes nothing.
 use mathlib.Core.Path.{_≡_, refl, sym, ap, _∙_}
 use mathlib.Core.Bool.{Bool, true, false, cond}
 use mathlib.Core.List.{List, [], _∷_, _++_}
@@ -31,9 +31,11 @@ use Rattle.tray.specs.Run.{
   lastLine,
   taking,
   takingLine,
-  printedOf,
-  printedBy,
-  printedFrom,
+  Whole,
+  withLine,
+  wholeOf,
+  wholeBy,
+  wholeFrom,
 }
 use Rattle.tray.proofs.LineLaws.{few-sent}
 
@@ -76,40 +78,40 @@ fewer bytes begun field next is =
       taken-within bytes 0 begun is .ends-inside,
     )
 
--- two ways to print what is left that agree on fewer bytes agree on these
-same-rest : (one other : Tray → List ℕ → List ℕ) (old : Tray) (bytes : List ℕ) (reading : Reading)
+-- two ways to go on that agree on fewer bytes agree on these
+same-rest : (one other : Tray → List ℕ → Whole) (old : Tray) (bytes : List ℕ) (reading : Reading)
     → ((new : Tray) (rest : List ℕ) → length rest < length bytes → one new rest ≡ other new rest)
     → readAt bytes 0 (old .begun) ≡ reading
-    → printedOf reading one old bytes ≡ printedOf reading other old bytes
-unfolding printedOf
+    → wholeOf reading one old bytes ≡ wholeOf reading other old bytes
+unfolding wholeOf
 same-rest one other old bytes (Taken field next) agree is =
-    ap (λ (rest : List ℕ). takingLine bytes field old ++ rest)
+    ap (withLine (takingLine bytes field old))
     (agree (taking bytes field next old) (drop next bytes)
     (fewer bytes (old .begun) field next is))
 same-rest one other old bytes End agree is = refl
 same-rest one other old bytes (Refused number place) agree is = refl
 
--- more turns than there are bytes print the same
+-- more turns than there are bytes make the same of them
 enough : (most more : ℕ) (old : Tray) (bytes : List ℕ)
     → length bytes < most → length bytes < more
-    → printedBy most old bytes ≡ printedBy more old bytes
-unfolding printedBy
+    → wholeBy most old bytes ≡ wholeBy more old bytes
+unfolding wholeBy
 enough zero more old bytes short long = absurd (omega (arith, short))
 enough (suc most) zero old bytes short long = absurd (omega (arith, long))
 enough (suc most) (suc more) old bytes short long =
-    same-rest (printedBy most) (printedBy more) old bytes (readAt bytes 0 (old .begun))
+    same-rest (wholeBy most) (wholeBy more) old bytes (readAt bytes 0 (old .begun))
     (λ new rest fewer-bytes.
     enough most more new rest (omega (arith, fewer-bytes)) (omega (arith, fewer-bytes)))
     refl
 
--- what is printed, by the first reading
-pub printed-by-reading : (old : Tray) (bytes : List ℕ) (reading : Reading)
+-- what is made of the bytes, by the first reading
+pub whole-by-reading : (old : Tray) (bytes : List ℕ) (reading : Reading)
     → readAt bytes 0 (old .begun) ≡ reading
-    → printedFrom old bytes ≡ printedOf reading printedFrom old bytes
-unfolding printedFrom printedBy
-printed-by-reading old bytes reading is =
-    ap (λ (any : Reading). printedOf any (printedBy (length bytes)) old bytes) is
-    ∙ same-rest (printedBy (length bytes)) printedFrom old bytes reading
+    → wholeFrom old bytes ≡ wholeOf reading wholeFrom old bytes
+unfolding wholeFrom wholeBy
+whole-by-reading old bytes reading is =
+    ap (λ (any : Reading). wholeOf any (wholeBy (length bytes)) old bytes) is
+    ∙ same-rest (wholeBy (length bytes)) wholeFrom old bytes reading
     (λ new rest fewer-bytes.
     enough (length bytes) (suc (length rest)) new rest fewer-bytes (omega arith))
     is

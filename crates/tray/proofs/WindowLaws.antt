@@ -1,5 +1,5 @@
--- A call over a window prints what the run prints of its bytes, whatever bytes come behind, and
--- leaves the rest to be printed. Assumes nothing.
+-- A call over a window makes of its bytes what the run makes of them, whatever bytes come behind,
+-- and leaves the rest to be done. Assumes nothing.
 use mathlib.Core.Path.{_≡_, refl, sym, ap, _∙_}
 use mathlib.Core.Logic.{_≢_}
 use mathlib.Core.Bool.{Bool, true, false, cond, not, _&&_}
@@ -41,8 +41,11 @@ use Rattle.tray.specs.Run.{
   lastLine,
   taking,
   takingLine,
-  printedOf,
-  printedFrom,
+  Whole,
+  whole,
+  withLine,
+  wholeOf,
+  wholeFrom,
 }
 use Rattle.tray.specs.Window.{
   Passed,
@@ -61,7 +64,7 @@ use Rattle.tray.specs.Pieces.{linesOf}
 use Rattle.tray.proofs.PrintedLaws.{
   taking-line-fits,
   last-line-fits,
-  printed-by-reading,
+  whole-by-reading,
 }
 
 -- a field tells the same, read at a place of the window or at the front of what is left
@@ -80,19 +83,20 @@ happening-same window behind at begun (HostWrite address first count) next is =
 happening-same window behind at begun (Table table) next is = refl
 happening-same window behind at begun (Flags flags) next is = refl
 
--- what a run that is not over still prints
-abbrev ahead : Stop → List ℕ → List ℕ
-ahead Going text = text
-ahead Hungry text = text
-ahead Full text = text
-ahead Over text = []
+-- what is still to come of a run: all that it makes of the bytes that are left, and of one that is
+-- over nothing more
+abbrev ahead : Stop → Tray → List ℕ → Whole
+ahead Going old bytes = wholeFrom old bytes
+ahead Hungry old bytes = wholeFrom old bytes
+ahead Full old bytes = wholeFrom old bytes
+ahead Over old bytes = whole [] old
 
 module _ (window behind : List ℕ) where
   -- what a call has printed, and what is still to come of its window and of the bytes behind
-  abbrev total : Passed → List ℕ
+  abbrev total : Passed → Whole
   total now′ =
-      take (now′ .put) (now′ .out)
-      ++ ahead (now′ .stop) (printedFrom (now′ .tray) (drop (now′ .at) window ++ behind))
+      withLine (take (now′ .put) (now′ .out))
+      (ahead (now′ .stop) (now′ .tray) (drop (now′ .at) window ++ behind))
 
   module _ (last : Bool) (none-behind : last ≡ true → behind ≡ []) where
     module _ (old : Tray) (at place : ℕ) (out : List ℕ) (inside : place ≤ length out) where
@@ -112,7 +116,7 @@ module _ (window behind : List ℕ) where
       field-same : (field : Field) (next : ℕ) → lineRoom ≤ length out - place
           → readAt (drop at window) 0 (old .begun) ≡ Taken field next
           → total (takes window (shiftedField at field) (at + next) going) ≡ total going
-      unfolding takes taking takingLine printedOf
+      unfolding takes taking takingLine wholeOf
       field-same field next room is =
           let told : happeningOf window (shiftedField at field) ≡ happeningOf left field =
           happening-same window behind at (old .begun) field next is in
@@ -121,22 +125,22 @@ module _ (window behind : List ℕ) where
           ap (λ (bytes : List ℕ). bytes ++ behind) (sym (drop-drop next at window))
           ∙ sym (drop-append-le next (drop at window) behind
           (taken-within (drop at window) 0 (old .begun) is .ends-inside)) in
-          let first : printedFrom old left
-          ≡ takingLine left field old ++ printedFrom (taking left field next old) (drop next left)
-          =
-          printed-by-reading old left (Taken field next)
+          let line : List ℕ = takingLine left field old in
+          let after : Whole = wholeFrom (taking left field next old) (drop next left) in
+          let first : wholeFrom old left ≡ withLine line after =
+          whole-by-reading old left (Taken field next)
           (more-bytes-same-field (drop at window) behind 0 (old .begun) is) in
           rw (told, size, rest)
-          (ap (λ (text : List ℕ). text ++ printedFrom (taking left field next old) (drop next left))
-          (line-printed (takingLine left field old) room (taking-line-fits left field old))
-          ∙ append-assoc (take place out) (takingLine left field old)
-          (printedFrom (taking left field next old) (drop next left))
-          ∙ ap (λ (text : List ℕ). take place out ++ text) (sym first))
+          (ap (λ (text : List ℕ). withLine text after)
+          (line-printed line room (taking-line-fits left field old))
+          ∙ ap (λ (text : List ℕ). whole text (after .tray))
+          (append-assoc (take place out) line (after .text))
+          ∙ ap (withLine (take place out)) (sym first))
 
       -- no field is taken: the call waits, or prints the last line
       stop-same : (number : ℕ) → lineRoom ≤ length out - place
           → (not last && mayGoOn number ≡ false
-          → printedFrom old left ≡ lastLine number (old .fields) (old .offset))
+          → wholeFrom old left ≡ whole (lastLine number (old .fields) (old .offset)) old)
           → total (stopsAt number last going) ≡ total going
       unfolding stoppedAt
       stop-same number room ends = go (not last && mayGoOn number) refl where
@@ -148,10 +152,11 @@ module _ (window behind : List ℕ) where
         go true is = rw is
         go false is =
             rw is
+            (ap (λ (all : List ℕ). whole all old)
             (append-nil (take (lineWritten out place text .next)
             (lineWritten out place text .bytes))
-            ∙ line-printed text room (last-line-fits number (old .fields) (old .offset))
-            ∙ ap (λ (more : List ℕ). take place out ++ more) (sym (ends is)))
+            ∙ line-printed text room (last-line-fits number (old .fields) (old .offset)))
+            ∙ ap (withLine (take place out)) (sym (ends is)))
 
       -- what is left is read so, if no bytes come behind or the reading is settled
       by-last : (reading : Reading) → last ≡ true → readAt (drop at window) 0 (old .begun) ≡ reading
@@ -186,15 +191,15 @@ module _ (window behind : List ℕ) where
       passing-same : (reading : Reading) → lineRoom ≤ length out - place
           → readAt (drop at window) 0 (old .begun) ≡ reading
           → total (passing (shifted at reading) window last going) ≡ total going
-      unfolding passing printedOf
+      unfolding passing wholeOf
       passing-same (Taken field next) room is = field-same field next room is
       passing-same End room is =
           stop-same 0 room
-          (λ ends. printed-by-reading old left End (by-last End (settled-end ends) is))
+          (λ ends. whole-by-reading old left End (by-last End (settled-end ends) is))
       passing-same (Refused number named) room is =
           stop-same number room
           (λ ends.
-          printed-by-reading old left (Refused number named) (refusal-read number named is ends))
+          whole-by-reading old left (Refused number named) (refusal-read number named is ends))
 
       turn-same : total (turn window last going) ≡ total going
       unfolding turn
@@ -274,33 +279,36 @@ module _ (window behind : List ℕ) where
     -- ---- a call
 
     call-same : (old : Tray) (out : List ℕ)
-        → total (windowRun old window last out) ≡ printedFrom old (window ++ behind)
+        → total (windowRun old window last out) ≡ wholeFrom old (window ++ behind)
     unfolding windowRun
     call-same old out = turns-same mostTurns old 0 0 out Going (omega arith)
 
-    -- a call that is not over prints its lines, and the rest is still to be printed
+    -- a call that is not over prints its lines, and the rest is still to be done
     pub call-goes-on : (old : Tray) (out : List ℕ) → windowRun old window last out .stop ≢ Over
-        → printedFrom old (window ++ behind)
-        ≡ linesOf (windowRun old window last out)
-        ++ printedFrom (windowRun old window last out .tray)
-        (drop (windowRun old window last out .at) window ++ behind)
+        → wholeFrom old (window ++ behind)
+        ≡ withLine (linesOf (windowRun old window last out))
+        (wholeFrom (windowRun old window last out .tray)
+        (drop (windowRun old window last out .at) window ++ behind))
     call-goes-on old out other =
         sym (call-same old out)
-        ∙ ap (λ (text : List ℕ). linesOf (windowRun old window last out) ++ text)
-        (not-over (windowRun old window last out .stop) other)
+        ∙ ap (withLine (linesOf (windowRun old window last out)))
+        (not-over (windowRun old window last out .stop) (windowRun old window last out .tray)
+        (drop (windowRun old window last out .at) window ++ behind) other)
       where
-        not-over : (stop : Stop) {text : List ℕ} → stop ≢ Over → ahead stop text ≡ text
-        not-over Going other′ = refl
-        not-over Hungry other′ = refl
-        not-over Full other′ = refl
-        not-over Over other′ = absurd (other′ refl)
+        not-over : (stop : Stop) (new : Tray) (bytes : List ℕ) → stop ≢ Over
+            → ahead stop new bytes ≡ wholeFrom new bytes
+        not-over Going new bytes other′ = refl
+        not-over Hungry new bytes other′ = refl
+        not-over Full new bytes other′ = refl
+        not-over Over new bytes other′ = absurd (other′ refl)
 
-    -- a call that is over has printed all there is
+    -- a call that is over has printed all there is, and leaves what the run leaves
     pub call-is-over : (old : Tray) (out : List ℕ) → windowRun old window last out .stop ≡ Over
-        → printedFrom old (window ++ behind) ≡ linesOf (windowRun old window last out)
+        → wholeFrom old (window ++ behind)
+        ≡ whole (linesOf (windowRun old window last out)) (windowRun old window last out .tray)
     call-is-over old out is =
+        let call : Passed = windowRun old window last out in
         sym (call-same old out)
-        ∙ ap (λ (stop : Stop). linesOf (windowRun old window last out)
-        ++ ahead stop (printedFrom (windowRun old window last out .tray)
-        (drop (windowRun old window last out .at) window ++ behind))) is
-        ∙ append-nil (linesOf (windowRun old window last out))
+        ∙ ap (λ (stop : Stop). withLine (linesOf call)
+        (ahead stop (call .tray) (drop (call .at) window ++ behind))) is
+        ∙ ap (λ (text : List ℕ). whole text (call .tray)) (append-nil (linesOf call))

@@ -29,15 +29,20 @@ pub record Tray : Type 0 where
   pub fields : ℕ
   pub offset : ℕ
 
--- before the first field: RAM is zero, and no station has number 31
-unfoldable pub trayAtStart : Tray
-trayAtStart =
+-- before the first field, over a memory; no station has number 31
+unfoldable pub trayOver : List ℕ → Tray
+trayOver ram =
     record {
       begun = false;
-      card = card (coreAtSetup 31 0 0) emptyQueue (replicate cardWords 0);
+      card = card (coreAtSetup 31 0 0) emptyQueue ram;
       fields = 0;
       offset = 0;
     }
+
+-- a tray run: RAM starts zero
+unfoldable pub trayAtStart : Tray
+unfolding trayOver
+trayAtStart = trayOver (replicate cardWords 0)
 
 -- counts and offsets have 64 bits
 abbrev pub counted : ℕ → ℕ
@@ -82,25 +87,37 @@ taking bytes field size old =
 unfoldable pub takingLine : List ℕ → Field → Tray → List ℕ
 takingLine bytes field old = shownLine (happened (happeningOf bytes field) (old .card))
 
--- what is printed from a reading on: of a field that is taken its line, and then what `rest` prints
--- of the bytes behind it; else the last line
-unfoldable pub printedOf : Reading → (Tray → List ℕ → List ℕ) → Tray → List ℕ → List ℕ
-printedOf (Taken field next) rest old bytes =
-    takingLine bytes field old ++ rest (taking bytes field next old) (drop next bytes)
-printedOf End rest old bytes = lastLine 0 (old .fields) (old .offset)
-printedOf (Refused number place) rest old bytes =
-    lastLine number (old .fields) (old .offset)
+-- what a run makes of the bytes of a recording: the text that it prints, and how far it has come
+-- then
+pub record Whole : Type 0 where
+  pub text : List ℕ
+  pub tray : Tray
+
+abbrev pub whole : List ℕ → Tray → Whole
+whole text tray = record { text = text; tray = tray }
+
+-- a line printed before the rest
+abbrev pub withLine : List ℕ → Whole → Whole
+withLine line rest = whole (line ++ rest .text) (rest .tray)
+
+-- from a reading on: a field that is taken prints its line, and then comes what `rest` makes of the
+-- bytes behind it; else the last line is printed
+unfoldable pub wholeOf : Reading → (Tray → List ℕ → Whole) → Tray → List ℕ → Whole
+wholeOf (Taken field next) rest old bytes =
+    withLine (takingLine bytes field old) (rest (taking bytes field next old) (drop next bytes))
+wholeOf End rest old bytes = whole (lastLine 0 (old .fields) (old .offset)) old
+wholeOf (Refused number place) rest old bytes =
+    whole (lastLine number (old .fields) (old .offset)) old
 
 -- in so many fields at the most
-unfoldable pub printedBy : ℕ → Tray → List ℕ → List ℕ
-printedBy zero old bytes = []
-printedBy (suc fields) old bytes =
-    printedOf (readAt bytes 0 (old .begun)) (printedBy fields) old bytes
+unfoldable pub wholeBy : ℕ → Tray → List ℕ → Whole
+wholeBy zero old bytes = whole [] old
+wholeBy (suc fields) old bytes = wholeOf (readAt bytes 0 (old .begun)) (wholeBy fields) old bytes
 
--- what is printed of the bytes that are left; they hold fewer fields than bytes
-unfoldable pub printedFrom : Tray → List ℕ → List ℕ
-printedFrom old bytes = printedBy (suc (length bytes)) old bytes
+-- of the bytes that are left; they hold fewer fields than bytes
+unfoldable pub wholeFrom : Tray → List ℕ → Whole
+wholeFrom old bytes = wholeBy (suc (length bytes)) old bytes
 
 -- what the program prints of a recording
 unfoldable pub printed : List ℕ → List ℕ
-printed bytes = printedFrom trayAtStart bytes
+printed bytes = wholeFrom trayAtStart bytes .text

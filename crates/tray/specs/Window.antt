@@ -3,7 +3,7 @@
 -- Definitions only. Assumes nothing.
 use mathlib.Core.Bool.{Bool, true, false, cond, not, _&&_, _||_}
 use mathlib.Core.List.{List}
-use Prim.Native.Nat.{ℕ, zero, suc, _-_, _^_}
+use Prim.Native.Nat.{ℕ, zero, suc, _+_, _-_, _*_, _^_}
 use lib.Dec.{eqb, leb, ltb}
 use lib.ListN.{length}
 use lib.Seq.{sets, slice}
@@ -93,6 +93,11 @@ unfoldable pub windowRun : Tray → List ℕ → Bool → List ℕ → Passed
 windowRun old window last out =
     turns mostTurns window last
     (record { tray = old; at = 0; put = 0; out = out; stop = Going })
+
+-- the room in which the lines of so many bytes stand at the most: no line is longer than that of a
+-- silence, whose field has 8 bytes, and the last line needs its own room
+abbrev pub wholeRoom : ℕ → ℕ
+wholeRoom bytes = 21 * bytes + lineRoom
 
 -- ---- what is left of a window
 

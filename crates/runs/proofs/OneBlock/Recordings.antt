@@ -16,9 +16,9 @@ use Rattle.tray.specs.Run.{
   lastLine,
   taking,
   takingLine,
-  printedOf,
-  printedBy,
-  printedFrom,
+  wholeOf,
+  wholeBy,
+  wholeFrom,
   printed,
 }
 use Rattle.tray.specs.OneBlock.{
@@ -128,7 +128,7 @@ the-recordings-are-the-same =
 
 -- to unfold `run` is to unfold the whole of a tray run
 unfoldable run : ℕ
-unfolding bytes runs happened trayAtStart lastLine taking takingLine printedOf printedBy printedFrom
+unfolding bytes runs happened trayAtStart lastLine taking takingLine wholeOf wholeBy wholeFrom
     printed
 run = 0
 

@@ -21,8 +21,9 @@ use Rattle.tray.specs.Run.{
   lastLine,
   taking,
   takingLine,
-  printedOf,
-  printedFrom,
+  Whole,
+  wholeOf,
+  wholeFrom,
   printed,
 }
 use Rattle.tray.specs.OneBlock.{
@@ -35,7 +36,7 @@ use Rattle.tray.specs.OneBlock.{
   linesOf,
   Prints,
 }
-use Rattle.tray.proofs.PrintedLaws.{printed-by-reading}
+use Rattle.tray.proofs.PrintedLaws.{whole-by-reading}
 
 -- ---- fields one by one
 
@@ -51,15 +52,17 @@ fieldsAfter fields (told ∷ rest) = fieldsAfter (counted (fields + 1)) rest
 
 printed-from : {begun : Bool} {bytes : List ℕ} {told : List Happening} → Accepted begun bytes told
     → (old : Tray) → old .begun ≡ begun
-    → printedFrom old bytes
+    → wholeFrom old bytes .text
     ≡ toldLines told (old .card) ++ endLine (fieldsAfter (old .fields) told)
-unfolding printedOf lastLine taking takingLine toldLines fieldsAfter readAt
-printed-from {bytes = bytes} the-end old begun = printed-by-reading old bytes End refl
+unfolding wholeOf lastLine taking takingLine toldLines fieldsAfter readAt
+printed-from {bytes = bytes} the-end old begun =
+    ap (λ (all : Whole). all .text) (whole-by-reading old bytes End refl)
 printed-from {bytes = bytes} (a-field {field = field} {next = next} {rest = rest} is then) old
     begun =
     let new : Tray = taking bytes field next old in
-    printed-by-reading old bytes (Taken field next)
-    (ap (λ (flag : Bool). readAt bytes 0 flag) begun ∙ is)
+    ap (λ (all : Whole). all .text)
+    (whole-by-reading old bytes (Taken field next)
+    (ap (λ (flag : Bool). readAt bytes 0 flag) begun ∙ is))
     ∙ ap (λ (text : List ℕ). takingLine bytes field old ++ text) (printed-from then new refl)
     ∙ sym (append-assoc (takingLine bytes field old) (toldLines rest (new .card))
     (endLine (fieldsAfter (new .fields) rest)))
