@@ -6,7 +6,7 @@ use mathlib.Core.List.{List, [], _∷_, _++_}
 use Prim.Native.Nat.{ℕ, zero, suc, _+_, _-_, _≤_, _<_}
 use native.Mathlib.Omega.{arith}
 use lib.Dec.{eqb}
-use lib.ListN.{length, drop, length-drop}
+use lib.ListN.{length, drop, length-drop, length-append}
 use Rattle.card.specs.Sent.{sentPart}
 use Rattle.terminal.specs.declared.state.Answer.{Answer}
 use Rattle.terminal.specs.declared.state.Answer.the-variants.{Replied, QueueWord}
@@ -115,3 +115,42 @@ whole-by-reading old bytes reading is =
     (λ new rest fewer-bytes.
     enough (length bytes) (suc (length rest)) new rest fewer-bytes (omega arith))
     is
+
+-- ---- the text is never empty
+
+last-line-there : (number fields offset : ℕ) → 0 < length (lastLine number fields offset)
+unfolding lastLine endLine refusalLine
+last-line-there number fields offset = go (eqb number 0) where
+  go : (test : Bool) → 0 < length (cond test (endLine fields) (refusalLine number offset))
+  go true = omega arith
+  go false = omega arith
+
+-- it is not if it is not of fewer bytes
+text-by-reading : (rest : Tray → List ℕ → Whole) (old : Tray) (bytes : List ℕ) (reading : Reading)
+    → ((new : Tray) (fewer-bytes : List ℕ) → length fewer-bytes < length bytes
+    → 0 < length (rest new fewer-bytes .text))
+    → readAt bytes 0 (old .begun) ≡ reading
+    → 0 < length (wholeOf reading rest old bytes .text)
+unfolding wholeOf
+text-by-reading rest old bytes (Taken field next) there is =
+    let new : Tray = taking bytes field next old in
+    omega (
+      arith,
+      length-append (takingLine bytes field old) (rest new (drop next bytes) .text),
+      there new (drop next bytes) (fewer bytes (old .begun) field next is),
+    )
+text-by-reading rest old bytes End there is = last-line-there 0 (old .fields) (old .offset)
+text-by-reading rest old bytes (Refused number place) there is =
+    last-line-there number (old .fields) (old .offset)
+
+text-there : (most : ℕ) (old : Tray) (bytes : List ℕ) → length bytes < most
+    → 0 < length (wholeBy most old bytes .text)
+unfolding wholeBy
+text-there zero old bytes few = absurd (omega (arith, few))
+text-there (suc most) old bytes few =
+    text-by-reading (wholeBy most) old bytes (readAt bytes 0 (old .begun))
+    (λ new rest fewer-bytes. text-there most new rest (omega (arith, fewer-bytes))) refl
+
+pub text-not-empty : (old : Tray) (bytes : List ℕ) → 0 < length (wholeFrom old bytes .text)
+unfolding wholeFrom
+text-not-empty old bytes = text-there (suc (length bytes)) old bytes (omega arith)

@@ -1,0 +1,2 @@
+-- A whole recording over lent memory.
+pub mod Lent
