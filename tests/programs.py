@@ -34,6 +34,16 @@ def for_x86_64(path):
     return [str(word) for word in ([emulator] if emulator.exists() else []) + words]
 
 
+def compiler():
+    """A C compiler for x86-64."""
+    at_home = platform.machine() == "x86_64"
+    name = "gcc" if at_home else "x86_64-linux-gnu-gcc"
+    if shutil.which(name) is None:
+        package = "gcc" if at_home else "gcc-x86-64-linux-gnu"
+        raise SystemExit(f"no {name} here: apt-get install -y {package}")
+    return name
+
+
 def compiled(name):
     path = ROOT / "target" / "bin" / name
     if not path.exists():
