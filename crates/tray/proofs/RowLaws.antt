@@ -26,7 +26,7 @@ use Rattle.terminal.specs.State.{withMessage}
 use Rattle.recording.specs.declared.Found.{Found}
 use Rattle.recording.specs.declared.Found.the-variants.{Value, Nothing}
 use Rattle.recording.specs.Found.{wordFound}
-use Rattle.tray.specs.declared.Row.{Row}
+use Rattle.tray.specs.declared.row.Row.{Row}
 use Rattle.tray.specs.declared.Ran.{Ran}
 use Rattle.tray.specs.Window.{takes}
 use Rattle.tray.specs.Row.{stored, rowWith, rowStored, wantedBy, ranAfter}

@@ -40,7 +40,7 @@ use Rattle.recording.specs.declared.Found.the-variants.{Value, Nothing}
 use Rattle.recording.specs.Found.{wordFound}
 use Rattle.recording.proofs.Choices.{both-of}
 use Rattle.lines.specs.Written.{lineRoom, mostWords}
-use Rattle.tray.specs.declared.Row.{Row}
+use Rattle.tray.specs.declared.row.Row.{Row}
 use Rattle.tray.specs.declared.Ran.{Ran}
 use Rattle.tray.specs.declared.Stop.the-variants.{Going}
 use Rattle.tray.specs.Window.{takes, turns}

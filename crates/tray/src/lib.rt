@@ -1,16 +1,15 @@
 // A run of a tray recording. The program lends the card memory, the queue's places, a window of the
 // recording and a buffer for the lines; `run_window` takes every whole field of the window, and
-// `keep_rest` moves what is left of it to the front, where the next piece is read behind it.
+// `keep_rest` moves what is left of it to the front, where the next piece is read behind it. `print`
+// has the lines, and `row` takes data words many at a time.
 ghost use mathlib.Core.Path.{_≡_};
-ghost use Prim.Native.Nat.{_-_, _<_};
 ghost use lib.Seq.{sets};
 ghost use Rattle.queue.specs.Queue.{queue, emptyQueue};
 ghost use Rattle.terminal.specs.declared.state.Reply.the-variants.{Silent};
 ghost use Rattle.terminal.specs.Event.{shown, replied};
-ghost use Rattle.lines.specs.Written.{put, lineWritten};
+ghost use Rattle.lines.specs.Written.{put};
 ghost use Rattle.recording.specs.Bytes.{wordsAt};
 ghost use Rattle.tray.specs.Happening.{happeningOf, happened};
-ghost use Rattle.tray.specs.Run.{replyLine, answerLine, lastLine};
 ghost use Rattle.tray.specs.Window.{
   isGoing,
   stopped,
@@ -29,28 +28,13 @@ ghost use Rattle.tray.specs.Held.{
   WordsThere,
   WasRead,
 };
-ghost use Rattle.tray.specs.Row.{
-  stored,
-  rowWith,
-  rowStored,
-  marksOn,
-  wantedBy,
-  ranAfter,
-  RowTaken,
-};
-use bus::kind;
+
+mod print;
+mod row;
+
 use card::host;
-use card::memory;
-use card::place::Block;
-use card::place::Cell;
-use card::sent;
-use message::format;
-use message::state::Message;
-use message::state::OpenMessage;
-use message::state::Stage;
 use queue::Ring;
 use recording::Field;
-use recording::Found;
 use recording::Reading;
 use std::num;
 use terminal::actions;
@@ -248,50 +232,6 @@ fn silently(core: Core, ring: Ring) -> Happened
     }
 }
 
-// ---- lines
-
-// The line of a reply: nothing of silence; else its status and the words sent, which stand in the
-// RAM.
-fn put_reply(out: &mut [u8], at: usize, ram: &[u16], reply: Reply) -> usize
-    ensures { λ next. ⌜ put next (now (out .exit))
-        ≡ lineWritten (now (out .entry)) at (replyLine (now (ram .entry)) reply) ⌝ }
-{
-    match reply {
-        Reply::Silent => at,
-        Reply::Status(status) => lines::status_line(out, at, status, &ram[0..0]),
-        Reply::Words {
-            status,
-            block,
-            count,
-        } => lines::status_line(out, at, status, sent::part(ram, block, count)),
-        Reply::Last { status, command } => {
-            let words: [u16; 1] = [command];
-            lines::status_line(out, at, status, &words)
-        }
-    }
-}
-
-fn put_answer(out: &mut [u8], at: usize, ram: &[u16], answer: Answer) -> usize
-    ensures { λ next. ⌜ put next (now (out .exit))
-        ≡ lineWritten (now (out .entry)) at (answerLine (now (ram .entry)) answer) ⌝ }
-{
-    match answer {
-        Answer::Replied(reply) => put_reply(out, at, ram, reply),
-        Answer::QueueWord(word) => lines::queue_line(out, at, word),
-    }
-}
-
-// END with the fields taken, or the number of the refusal with the offset of its field.
-fn put_last(out: &mut [u8], at: usize, number: u8, fields: u64, offset: u64) -> usize
-    ensures { λ next. ⌜ put next (now (out .exit))
-        ≡ lineWritten (now (out .entry)) at (lastLine number fields offset) ⌝ }
-{
-    if number == 0 {
-        return lines::end_line(out, at, fields);
-    }
-    lines::refusal_line(out, at, number, offset)
-}
-
 // ---- the window
 
 // A field is taken: what it tells comes about, and its line is printed.
@@ -315,7 +255,7 @@ fn take_field(
     let left = happen(old, places, ram, window, field);
     let answer = left.answer;
     let held = left.held;
-    let put = put_answer(out, ran.put, ram, answer);
+    let put = print::put_answer(out, ran.put, ram, answer);
     let size = (next - ran.at) as u64;
     let fields = num::wrapping_add_u64(run.fields, 1);
     let offset = num::wrapping_add_u64(run.offset, size);
@@ -345,7 +285,7 @@ fn stop_at(out: &mut [u8], at: usize, number: u8, last: bool, fields: u64, offse
             stop: Stop::Hungry,
         };
     }
-    let next = put_last(out, at, number, fields, offset);
+    let next = print::put_last(out, at, number, fields, offset);
     Ended {
         put: next,
         stop: Stop::Over,
@@ -401,147 +341,6 @@ fn turn(
     }
 }
 
-// ---- a row of data words
-
-// The numbers of a run that a data word changes.
-struct Row {
-    at: usize,
-    taken: u16,
-    fields: u64,
-    offset: u64,
-}
-
-// What a row of data words leaves of a run, and how many turns are left then.
-struct Rowed {
-    ran: Ran,
-    left: u64,
-}
-
-impl Row {
-    // A word more, of a field that ends at a place.
-    fn with_word(self, next: usize) -> Row
-        requires { ⌜ self .taken < 65535 ⌝ }
-        ensures { λ row. ⌜ row ≡ rowWith next self ⌝ }
-    {
-        Row {
-            at: next,
-            taken: self.taken + 1,
-            fields: num::wrapping_add_u64(self.fields, 1),
-            offset: num::wrapping_add_u64(self.offset, 10),
-        }
-    }
-
-    // Stores the words that stand next in the window with these marks, as many as are wanted.
-    fn store(self, ram: &mut [u16], window: &[u8], marks: u8, block: u16, wanted: u16) -> Row
-        ensures { λ row. ⌜ stored row (now (ram .exit))
-            ≡ rowStored (wanted - self .taken) (now (window .entry)) marks block
-            (stored self (now (ram .entry))) ⌝ }
-    {
-        let mut row = self;
-        while row.taken < wanted {
-            let found = recording::find_word(window, row.at, marks);
-            let Found::Value { value, next } = found else {
-                break;
-            };
-            memory::write_cell(ram, Block(block), Cell(row.taken), value);
-            row = row.with_word(next);
-        }
-        row
-    }
-}
-
-// Data sync, sound and joined, on the message's line.
-fn marks_on(line: bool) -> u8
-    ensures { λ marks. ⌜ marks ≡ marksOn line ⌝ }
-{
-    if line { 13 } else { 12 }
-}
-
-// How many words an open message takes and stores, as far as it is in its data.
-fn wanted_by(able: bool, message: OpenMessage) -> u16
-    ensures { λ wanted. ⌜ wanted ≡ wantedBy able message ⌝ }
-{
-    if !able {
-        return 0;
-    }
-    let kind = kind::kind_of(message.command);
-    let format = format::format_by(kind, message.command);
-    let stage = message.stage;
-    match stage {
-        Stage::Data => {
-            if message.busy {
-                return 0;
-            }
-            format.takes
-        }
-        Stage::SecondCommand => 0,
-        Stage::AwaitingStatus => 0,
-        Stage::Skipping => 0,
-    }
-}
-
-impl Ran {
-    // The data words that stand next and are wanted: three quarters of the fields of a busy rack.
-    // Each is a turn, but touches a few numbers alone.
-    fn take_row(self, ram: &mut [u16], window: &[u8], room: usize, most: u64) -> Rowed
-        ensures { λ rowed. ⌜ RowTaken (now (window .entry)) room most self (now (ram .entry))
-            (rowed .left) (rowed .ran) (now (ram .exit)) ⌝ }
-    {
-        let run = self.run;
-        let held = run.held;
-        let core = held.core;
-        let state = core.message;
-        let Message::Open(message) = state else {
-            return Rowed {
-                ran: self,
-                left: most,
-            };
-        };
-        let able = run.begun & (lines::LINE_ROOM <= room) & (32 < most);
-        let wanted = wanted_by(able, message);
-        let start = Row {
-            at: self.at,
-            taken: message.taken,
-            fields: run.fields,
-            offset: run.offset,
-        };
-        let end = start.store(ram, window, marks_on(message.line), message.block, wanted);
-        let words = (end.taken - message.taken) as u64;
-        Rowed {
-            ran: self.after_row(message, end),
-            left: most - words,
-        }
-    }
-
-    // The run behind a row of words for its open message.
-    fn after_row(self, message: OpenMessage, end: Row) -> Ran
-        ensures { λ ran. ⌜ ran ≡ ranAfter self message end ⌝ }
-    {
-        let run = self.run;
-        let held = run.held;
-        let core = held.core;
-        let ring = held.ring;
-        let second = message.second;
-        let stage = message.stage;
-        let stop = self.stop;
-        let next = message.further(stage, second, end.taken);
-        Ran {
-            run: Run {
-                held: Held {
-                    core: core.with_message(Message::Open(next)),
-                    ring: ring,
-                },
-                begun: run.begun,
-                fields: end.fields,
-                offset: end.offset,
-            },
-            at: end.at,
-            put: self.put,
-            stop: stop,
-        }
-    }
-}
-
 // Every whole field of the window, from its first byte on, and their lines from the buffer's first
 // byte on. `last`: no more bytes will come.
 pub fn run_window(
@@ -570,7 +369,7 @@ pub fn run_window(
             break;
         }
         let room = lines::left_from(out.len(), ran.put);
-        let rowed = ran.take_row(ram, window, room, turns);
+        let rowed = row::take_row(ran, ram, window, room, turns);
         let next = rowed.ran;
         turns = rowed.left;
         ran = turn(next, places, ram, window, out, last);

@@ -1,9 +1,9 @@
--- `tray::Row::store` meets its contract, by the laws of its loop. Assumes nothing.
+-- `tray::row::Row::store` meets its contract, by the laws of its loop. Assumes nothing.
 use Prim.Native.Nat.{_-_}
 use borrow.Author.Needs.{needs}
 use Rattle.tray.proofs.RowLaws.{Storing, storings}
-use Rattle.tray.proofs.Row.store.Statement.{statement}
-use Rattle.tray.proofs.Row.store.Tie as tie
+use Rattle.tray.proofs.row.Row.store.Statement.{statement}
+use Rattle.tray.proofs.row.Row.store.Tie as tie
 
 abbrev Inv-loop : tie.InvT-loop
 Inv-loop ram₀ window marks block wanted row₀ ram row =

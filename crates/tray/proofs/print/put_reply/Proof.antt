@@ -1,8 +1,8 @@
--- `tray::put_reply` meets its contract: a law for each reply. Assumes nothing.
+-- `tray::print::put_reply` meets its contract: a law for each reply. Assumes nothing.
 use borrow.Author.Needs.{needs}
 use Rattle.tray.proofs.LineLaws.{reply-lines}
-use Rattle.tray.proofs.put_reply.Statement.{statement}
-use Rattle.tray.proofs.put_reply.Tie as tie
+use Rattle.tray.proofs.print.put_reply.Statement.{statement}
+use Rattle.tray.proofs.print.put_reply.Tie as tie
 
 enum-told : tie.Need-enum-told
 enum-told c = search needs

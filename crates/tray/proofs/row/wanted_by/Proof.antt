@@ -1,8 +1,8 @@
--- `tray::wanted_by` meets its contract, by the cases of its tests. Assumes nothing.
+-- `tray::row::wanted_by` meets its contract, by the cases of its tests. Assumes nothing.
 use borrow.Author.Needs.{needs}
 use Rattle.tray.proofs.RowLaws.{wanting}
-use Rattle.tray.proofs.wanted_by.Statement.{statement}
-use Rattle.tray.proofs.wanted_by.Tie as tie
+use Rattle.tray.proofs.row.wanted_by.Statement.{statement}
+use Rattle.tray.proofs.row.wanted_by.Tie as tie
 
 returns : tie.Need-returns
 returns c = search (needs, wanting) depth 9

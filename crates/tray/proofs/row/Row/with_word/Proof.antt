@@ -1,7 +1,7 @@
--- `tray::Row::with_word` meets its contract. Assumes nothing.
+-- `tray::row::Row::with_word` meets its contract. Assumes nothing.
 use borrow.Author.Needs.{needs}
-use Rattle.tray.proofs.Row.with_word.Statement.{statement}
-use Rattle.tray.proofs.Row.with_word.Tie as tie
+use Rattle.tray.proofs.row.Row.with_word.Statement.{statement}
+use Rattle.tray.proofs.row.Row.with_word.Tie as tie
 
 add-t3 : tie.Need-add-t3
 add-t3 c = search needs

@@ -1,8 +1,8 @@
--- `tray::put_answer` meets its contract: a law for each answer. Assumes nothing.
+-- `tray::print::put_answer` meets its contract: a law for each answer. Assumes nothing.
 use borrow.Author.Needs.{needs}
 use Rattle.tray.proofs.LineLaws.{answer-lines}
-use Rattle.tray.proofs.put_answer.Statement.{statement}
-use Rattle.tray.proofs.put_answer.Tie as tie
+use Rattle.tray.proofs.print.put_answer.Statement.{statement}
+use Rattle.tray.proofs.print.put_answer.Tie as tie
 
 enum-known-answer : tie.Need-enum-known-answer
 enum-known-answer c = search needs

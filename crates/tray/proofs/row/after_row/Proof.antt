@@ -1,8 +1,8 @@
--- `tray::Ran::after_row` meets its contract. Assumes nothing.
+-- `tray::row::after_row` meets its contract. Assumes nothing.
 use borrow.Author.Needs.{needs}
 use Rattle.tray.proofs.RowLaws.{row-after}
-use Rattle.tray.proofs.Ran.after_row.Statement.{statement}
-use Rattle.tray.proofs.Ran.after_row.Tie as tie
+use Rattle.tray.proofs.row.after_row.Statement.{statement}
+use Rattle.tray.proofs.row.after_row.Tie as tie
 
 further-requires : tie.Need-further-requires
 further-requires c κs = search needs

@@ -1,9 +1,9 @@
--- `tray::Ran::take_row` meets its contract: a row of data words is as many turns. Assumes nothing.
+-- `tray::row::take_row` meets its contract: a row of data words is as many turns. Assumes nothing.
 use mathlib.Core.Path.{refl}
 use borrow.Author.Needs.{needs}
 use Rattle.tray.proofs.RowTurns.{rows, words-fit, row-taken}
-use Rattle.tray.proofs.Ran.take_row.Statement.{statement}
-use Rattle.tray.proofs.Ran.take_row.Tie as tie
+use Rattle.tray.proofs.row.take_row.Statement.{statement}
+use Rattle.tray.proofs.row.take_row.Tie as tie
 
 enum-known-state : tie.Need-enum-known-state
 enum-known-state c = search needs
