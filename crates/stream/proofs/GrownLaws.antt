@@ -11,7 +11,7 @@ use lib.Seq.{length-take-le, take-append-le, take-append-add}
 use borrow.Rule.Slice.PartMut.{putMid}
 use Rattle.io.specs.Counts.{Counts}
 use Rattle.stream.specs.declared.Pump.{Pump}
-use Rattle.stream.specs.Came.{Grown, ReadOn}
+use Rattle.stream.specs.Turns.{Grown, ReadOn}
 
 pub grown-by : (window part : List ℕ) (have count more : ℕ) → have ≤ length window
     → Counts more part → Grown window have (putMid have count window part) (have + more)
@@ -39,6 +39,12 @@ grown-by window part have count more inside counts =
 pub read-so : (old : Pump) (window window′ : List ℕ) (more : ℕ)
     → Grown window (old .have) window′ more
     → ReadOn old window
-    (record { run = old .run; have = more; ended = eqb more (old .have); over = false }) window′
+    (record {
+      run = old .run;
+      have = more;
+      ended = eqb more (old .have);
+      over = false;
+      whole = false;
+    }) window′
 read-so old window window′ more grown =
-    record { grown = grown; same-run = refl; at-end = refl; goes-on = refl }
+    record { grown = grown; same-run = refl; at-end = refl; goes-on = refl; not-whole = refl }

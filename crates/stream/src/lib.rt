@@ -2,11 +2,13 @@
 // large pieces into one window and the lines of a call are written at once, so that memory stays
 // the same whatever the length.
 ghost use mathlib.Core.Path.{_≡_};
+ghost use mathlib.Core.Logic.{_≢_};
 ghost use mathlib.Core.Bool.{true};
 ghost use Prim.Native.Nat.{_≤_};
 ghost use lib.ListN.{length};
 ghost use Rattle.tray.specs.Held.{trayOf, runAtStart};
-ghost use Rattle.stream.specs.Came.{Came, Grown, ReadOn, Stepped, Settled, Turned};
+ghost use Rattle.stream.specs.Came.{Came};
+ghost use Rattle.stream.specs.Turns.{Grown, ReadOn, Stepped, Settled, Turned};
 use io;
 use libc;
 use libc::STDIN_FILENO;
@@ -15,19 +17,27 @@ use tray;
 use tray::Run;
 use tray::Stop;
 
-// How far a program has come: the run, the bytes in its window, whether the input has ended, and
-// whether the program has.
+// How far a program has come: the run, the bytes in its window, whether the input has ended,
+// whether the program has, and whether by the run's own end with every line taken.
 struct Pump {
     run: Run,
     have: usize,
     ended: bool,
     over: bool,
+    whole: bool,
 }
 
 // What a call leaves, and why it stopped.
 struct Called {
     pump: Pump,
     stop: Stop,
+}
+
+// What a run leaves, and whether it is whole: it came to its own end, and the operating system took
+// every line of it.
+pub struct Done {
+    pub run: Run,
+    pub whole: bool,
 }
 
 // One more piece behind the bytes that are there. Answers how many there are then.
@@ -40,6 +50,17 @@ fn read_behind(window: &mut [u8], have: usize) -> usize
     have + io::count(got, rest)
 }
 
+// Writes the lines of a call. Answers whether that failed, which it cannot where there are none.
+fn fails_to_write(out: &[u8], put: usize) -> bool
+    requires { ⌜ put ≤ length (now out) ⌝ }
+    ensures { λ failed. ⌜ (failed ≡ true → put ≢ 0) ⌝ }
+{
+    if put == 0 {
+        return false;
+    }
+    !io::write_all(STDOUT_FILENO, &out[0..put])
+}
+
 impl Pump {
     fn finished(mut self) -> Pump
         ensures { λ pump. ⌜ pump ≡ record {
@@ -47,10 +68,22 @@ impl Pump {
           have = self .have;
           ended = self .ended;
           over = true;
+          whole = true;
         } ⌝ }
     {
         self.over = true;
+        self.whole = true;
         self
+    }
+
+    fn done(self) -> Done
+        ensures { λ done. ⌜ done ≡ record { run = self .run; whole = self .whole } ⌝ }
+    {
+        let run = self.run;
+        Done {
+            run: run,
+            whole: self.whole,
+        }
     }
 
     // A read that brings nothing, or fails, ends the input.
@@ -66,6 +99,7 @@ impl Pump {
             have: more,
             ended: more == have,
             over: false,
+            whole: false,
         }
     }
 
@@ -90,35 +124,34 @@ impl Pump {
         let new = ran.run;
         let stop = ran.stop;
         let put = ran.put;
-        let written = io::write_all(STDOUT_FILENO, &out[0..put]);
+        let failed = fails_to_write(out, put);
         let left = tray::keep_rest(window, ran.at, have);
         Called {
             pump: Pump {
                 run: new,
                 have: left,
                 ended: self.ended,
-                over: !written,
+                over: failed,
+                whole: false,
             },
             stop: stop,
         }
     }
 
-    // What a call leaves to do: nothing where the run is over, and a read where it needs bytes.
+    // What a call leaves to do: nothing where its lines were not taken, even if they were the last;
+    // a read where it needs bytes.
     fn settle(self, window: &mut [u8], stop: Stop) -> Pump
         requires { ⌜ self .have ≤ length (now window) ⌝ }
         ensures { λ pump. ⌜ Settled self (now (window .entry)) stop pump (now (window .exit)) ⌝ }
     {
-        let over = self.over;
+        if self.over {
+            return self;
+        }
         match stop {
             Stop::Going => self,
             Stop::Full => self,
             Stop::Over => self.finished(),
-            Stop::Hungry => {
-                if over {
-                    return self;
-                }
-                self.read_on(window)
-            }
+            Stop::Hungry => self.read_on(window),
         }
     }
 
@@ -144,10 +177,11 @@ impl Pump {
 }
 
 // Runs the recording on standard input over the lent memory, which is zero for a tray run.
-pub fn run_input(places: &mut [u16; 256], ram: &mut [u16]) -> Run
-    ensures { λ run. ⌜ Came
+pub fn run_input(places: &mut [u16; 256], ram: &mut [u16]) -> Done
+    ensures { λ done. ⌜ Came
         (trayOf runAtStart (now (places .entry)) (now (ram .entry)))
-        (trayOf run (now (places .exit)) (now (ram .exit))) ⌝ }
+        (trayOf (done .run) (now (places .exit)) (now (ram .exit)))
+        (done .whole) ⌝ }
 {
     let mut bytes = io::large_buffer();
     let window: &mut [u8] = &mut bytes;
@@ -159,14 +193,15 @@ pub fn run_input(places: &mut [u16; 256], ram: &mut [u16]) -> Run
         have: 0,
         ended: false,
         over: false,
+        whole: false,
     };
     let mut turns = u64::MAX;
     while turns > 0 {
         if pump.over {
-            break;
+            return pump.done();
         }
         pump = pump.turn(places, ram, window, out);
         turns -= 1;
     }
-    pump.run
+    pump.done()
 }

@@ -10,7 +10,12 @@ use stream;
 fn main() {
     let mut places: [u16; 256] = [0; 256];
     let mut ram: [u16; 16384] = [0; 16384];
-    let run = stream::run_input(&mut places, &mut ram);
+    let done = stream::run_input(&mut places, &mut ram);
+    // after a write that failed nothing more can be printed
+    if !done.whole {
+        return;
+    }
+    let run = done.run;
     let mut bytes = io::large_buffer();
     let out: &mut [u8] = &mut bytes;
     let put = state::put_state(out, run, &places);

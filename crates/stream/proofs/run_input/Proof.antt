@@ -8,7 +8,7 @@ use Rattle.stream.proofs.run_input.Tie as tie
 
 abbrev Inv-loop : tie.InvT-loop
 Inv-loop places₀ ram₀ window₀ out₀ pump₀ turns₀ places ram window out pump turns =
-    Pumping (trayOf runAtStart places₀ ram₀) pump places ram window (length ram₀)
+    Pumping (trayOf runAtStart places₀ ram₀) pump places ram window (length ram₀) turns
 
 abbrev μ-loop : tie.MeasureT-loop
 μ-loop places₀ ram₀ window₀ out₀ pump₀ turns₀ places ram window out pump turns = turns
@@ -31,23 +31,35 @@ at-start-requires c κs = search (needs, pumping) depth 9
 loop-holds : tie.Need-loop-holds Inv-loop μ-loop
 loop-holds c = search (needs, pumping) depth 9
 
-turn-requires : tie.Need-turn-requires Inv-loop μ-loop
-turn-requires c κs = search (needs, pumping) depth 9
-
-sub-turns : tie.Need-sub-turns Inv-loop μ-loop
-sub-turns c = search needs
-
-loop-less : tie.Need-loop-less Inv-loop μ-loop
-loop-less c = search needs
-
-loop-again : tie.Need-loop-again Inv-loop μ-loop
-loop-again c = search (needs, pumping) depth 9
+done-requires : tie.Need-done-requires Inv-loop μ-loop
+done-requires c κs = search (needs, pumping) depth 9
 
 same-length : tie.Need-same-length Inv-loop μ-loop
 same-length c = search (needs, pumping) depth 9
 
 returns : tie.Need-returns Inv-loop μ-loop
 returns c = search (needs, pumping) depth 9
+
+turn-requires : tie.Need-turn-requires Inv-loop μ-loop
+turn-requires c κs = search (needs, pumping) depth 9
+
+sub-turns : tie.Need-sub-turns Inv-loop μ-loop
+sub-turns c = search (needs, pumping) depth 9
+
+loop-less : tie.Need-loop-less Inv-loop μ-loop
+loop-less c = search (needs, pumping) depth 9
+
+loop-again : tie.Need-loop-again Inv-loop μ-loop
+loop-again c = search (needs, pumping) depth 9
+
+done-requires-2 : tie.Need-done-requires-2 Inv-loop μ-loop
+done-requires-2 c κs = search (needs, pumping) depth 9
+
+same-length-2 : tie.Need-same-length-2 Inv-loop μ-loop
+same-length-2 c = search (needs, pumping) depth 9
+
+returns-2 : tie.Need-returns-2 Inv-loop μ-loop
+returns-2 c = search (needs, pumping) depth 9
 
 pub run-input-spec : {M : Type 1} → statement M
 run-input-spec =
@@ -61,9 +73,13 @@ run-input-spec =
     slice-aggregate-out
     at-start-requires
     loop-holds
+    done-requires
+    same-length
+    returns
     turn-requires
     sub-turns
     loop-less
     loop-again
-    same-length
-    returns)
+    done-requires-2
+    same-length-2
+    returns-2)

@@ -1,4 +1,4 @@
--- `stream::Pump::call` meets its contract: a law for each way that a call stops. Assumes nothing.
+-- `stream::Pump::call` meets its contract, by the law of a call. Assumes nothing.
 use borrow.Author.Needs.{needs}
 use Rattle.stream.proofs.CallLaws.{call-steps, lines-inside}
 use Rattle.stream.proofs.Pump.call.Statement.{statement}
@@ -16,17 +16,8 @@ part-run-window-end c = search needs
 run-window-requires : tie.Need-run-window-requires
 run-window-requires c κs = search needs
 
-sub-write-all : tie.Need-sub-write-all
-sub-write-all c = search needs
-
-part-write-all-start : tie.Need-part-write-all-start
-part-write-all-start c = search needs
-
-part-write-all-end : tie.Need-part-write-all-end
-part-write-all-end c = search (needs, lines-inside) depth 9
-
-write-all-requires : tie.Need-write-all-requires
-write-all-requires c κs = search needs
+fails-to-write-requires : tie.Need-fails-to-write-requires
+fails-to-write-requires c κs = search (needs, lines-inside) depth 9
 
 keep-rest-requires : tie.Need-keep-rest-requires
 keep-rest-requires c κs = search needs
@@ -51,10 +42,7 @@ call-spec =
     part-run-window-start
     part-run-window-end
     run-window-requires
-    sub-write-all
-    part-write-all-start
-    part-write-all-end
-    write-all-requires
+    fails-to-write-requires
     keep-rest-requires
     same-length
     same-length-2

@@ -5,6 +5,9 @@ use Rattle.stream.proofs.CallLaws.{settling}
 use Rattle.stream.proofs.Pump.settle.Statement.{statement}
 use Rattle.stream.proofs.Pump.settle.Tie as tie
 
+returns : tie.Need-returns
+returns c = search (needs, settling) depth 9
+
 enum-told : tie.Need-enum-told
 enum-told c = search needs
 
@@ -19,9 +22,6 @@ finished-requires c κs = search needs
 
 enum-told-4 : tie.Need-enum-told-4
 enum-told-4 c = search needs
-
-returns : tie.Need-returns
-returns c = search (needs, settling) depth 9
 
 read-on-requires : tie.Need-read-on-requires
 read-on-requires c κs = search needs
@@ -45,12 +45,12 @@ pub settle-spec : {M : Type 1} → statement M
 settle-spec =
     tie.close
     (tie.spec
+    returns
     enum-told
     enum-told-2
     enum-told-3
     finished-requires
     enum-told-4
-    returns
     read-on-requires
     returns-2
     returns-3

@@ -1,0 +1,93 @@
+-- What a whole run has printed, and how far that claim reaches. Assumes nothing.
+use mathlib.Core.Path.{_≡_, refl, sym, ap, subst, _∙_}
+use mathlib.Core.Bool.{Bool, true, false}
+use mathlib.Core.List.{List, []}
+use Prim.Native.Nat.{ℕ, zero, suc, _<_}
+use native.Mathlib.Omega.{arith}
+use lib.ListN.{replicate}
+use Rattle.card.specs.Memory.{cardWords}
+use Rattle.queue.specs.Queue.{queuePlaces}
+use Rattle.recording.specs.Reading.{readAt}
+use Rattle.lines.specs.Written.{lineRoom}
+use Rattle.tray.specs.declared.Stop.the-variants.{Going, Over}
+use Rattle.tray.specs.Run.{Tray, trayAtStart, printed}
+use Rattle.tray.specs.Held.{trayOf, runAtStart}
+use Rattle.tray.specs.Window.{Passed, stoppedAt, passing, turn, turns, mostTurns, windowRun}
+use Rattle.tray.specs.Pieces.{begins, ends, Finished}
+use Rattle.tray.proofs.PieceLaws.{pieces-print-the-whole}
+use Rattle.stream.specs.Came.{Came, finished, broken-off, spent}
+
+-- a run is finished that has printed what the definition prints of its input
+pub record PrintedWhole (new : Tray) : Type 0 where
+  pub input : List ℕ
+  pub text : List ℕ
+  pub is-finished : Finished trayAtStart input text new
+  pub as-defined : text ≡ printed input
+
+-- as `run_input` begins, over memory of zeros
+zero-memory : trayOf runAtStart (replicate queuePlaces 0) (replicate cardWords 0) ≡ trayAtStart
+unfolding runAtStart trayAtStart
+zero-memory = refl
+
+-- over memory of zeros, a whole run has printed `printed input`
+pub whole-run-prints : (new : Tray)
+    → Came (trayOf runAtStart (replicate queuePlaces 0) (replicate cardWords 0)) new true
+    → PrintedWhole new
+whole-run-prints new came =
+    by-end true refl (subst (λ (start : Tray). Came start new true) zero-memory came) where
+      by-end : (whole : Bool) → whole ≡ true → Came trayAtStart new whole → PrintedWhole new
+      by-end _ is (finished {input} {text} done) =
+          record {
+            input = input;
+            text = text;
+            is-finished = done;
+            as-defined = pieces-print-the-whole input text new done;
+          }
+      by-end _ is (broken-off _) = absurd (let z : _≡_ {A = ℕ} 0 1 = cc in omega arith)
+      by-end _ is (spent _ _) = absurd (let z : _≡_ {A = ℕ} 0 1 = cc in omega arith)
+
+-- ---- how far the claim reaches
+
+-- a call that is over stays so
+over-stays : (most : ℕ) (window : List ℕ) (last : Bool) (old : Passed) → old .stop ≡ Over
+    → turns most window last old ≡ old
+unfolding turns
+over-stays zero window last old is = refl
+over-stays (suc most) window last old is = rw is refl
+
+-- a call over no bytes, which are the last
+module _ (start : Tray) where
+  abbrev begun : Passed
+  begun = record { tray = start; at = 0; put = 0; out = replicate lineRoom 0; stop = Going }
+
+  turn-over : turn [] true begun .stop ≡ Over
+  unfolding turn passing readAt stoppedAt
+  turn-over = refl
+
+  turn-keeps : turn [] true begun .tray ≡ start
+  unfolding turn passing readAt stoppedAt
+  turn-keeps = refl
+
+  one-turn : (most : ℕ) → 0 < most → turns most [] true begun ≡ turn [] true begun
+  unfolding turns
+  one-turn zero some = absurd (omega (arith, some))
+  one-turn (suc most) some = over-stays most [] true (turn [] true begun) turn-over
+
+  is-turn : windowRun start [] true (replicate lineRoom 0) ≡ turn [] true begun
+  unfolding windowRun
+  is-turn = one-turn mostTurns (omega arith)
+
+  -- the input is not named, and a run of an empty one leaves all as it was
+  pub empty-input-is-whole : Came start start true
+  empty-input-is-whole =
+      finished (record {
+        ended = true;
+        before = [];
+        old = start;
+        window = [];
+        out = replicate lineRoom 0;
+        streamed = ends begins;
+        is-over = ap (λ (any : Passed). any .stop) is-turn ∙ turn-over;
+        is-text = refl;
+        is-new = sym (ap (λ (any : Passed). any .tray) is-turn ∙ turn-keeps);
+      })
