@@ -1,5 +1,6 @@
--- The loop of `run_input`: the program has come as far as `specs/Came.antt` says. Assumes nothing.
-use mathlib.Core.Path.{_≡_, refl, sym, subst, _∙_}
+-- The loop of `run_input`: the program has come as far as `specs/Turns.antt` says, a call a turn.
+-- Assumes nothing.
+use mathlib.Core.Path.{_≡_, refl, subst, _∙_}
 use mathlib.Core.Logic.{_≢_}
 use mathlib.Core.Bool.{Bool, true, false}
 use mathlib.Core.List.{List, [], _++_}
@@ -20,7 +21,6 @@ use Rattle.stream.specs.Turns.{
   Pumped,
   going,
   over,
-  ReadOn,
   Stepped,
   Settled,
   Turned,
