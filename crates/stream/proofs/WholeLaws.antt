@@ -1,4 +1,4 @@
--- What a whole run has printed, and how far that claim reaches. Assumes nothing.
+-- What a whole run has printed and left, and how far that claim reaches. Assumes nothing.
 use mathlib.Core.Path.{_≡_, refl, sym, ap, subst, _∙_}
 use mathlib.Core.Bool.{Bool, true}
 use mathlib.Core.List.{List, []}
@@ -10,38 +10,38 @@ use Rattle.queue.specs.Queue.{queuePlaces}
 use Rattle.recording.specs.Reading.{readAt}
 use Rattle.lines.specs.Written.{lineRoom}
 use Rattle.tray.specs.declared.Stop.the-variants.{Going, Over}
-use Rattle.tray.specs.Run.{Tray, trayAtStart, printed}
+use Rattle.tray.specs.Run.{Tray, trayAtStart, whole, wholeFrom}
 use Rattle.tray.specs.Held.{trayOf, runAtStart}
 use Rattle.tray.specs.Window.{Passed, stoppedAt, passing, turn, turns, mostTurns, windowRun}
 use Rattle.tray.specs.Pieces.{begins, ends, Finished}
-use Rattle.tray.proofs.PieceLaws.{pieces-print-the-whole}
+use Rattle.tray.proofs.PieceLaws.{finished-prints}
 use Rattle.stream.specs.Came.{Came, finished, broken-off, spent}
 
--- a run is finished that has printed what the definition prints of its input
+-- a run is finished that has printed and left what the definition makes of its input
 pub record PrintedWhole (new : Tray) : Type 0 where
   pub input : List ℕ
   pub text : List ℕ
   pub is-finished : Finished trayAtStart input text new
-  pub as-defined : text ≡ printed input
+  pub as-defined : whole text new ≡ wholeFrom trayAtStart input
 
 -- as `run_input` begins, over memory of zeros
 zero-memory : trayOf runAtStart (replicate queuePlaces 0) (replicate cardWords 0) ≡ trayAtStart
 unfolding runAtStart trayAtStart
 zero-memory = refl
 
--- over memory of zeros, a whole run has printed `printed input`
+-- over memory of zeros, a whole run has printed `printed` of its input, and left what it leaves
 pub whole-run-prints : (new : Tray)
     → Came (trayOf runAtStart (replicate queuePlaces 0) (replicate cardWords 0)) new true
     → PrintedWhole new
 whole-run-prints new came =
     by-end true refl (subst (λ (start : Tray). Came start new true) zero-memory came) where
-      by-end : (whole : Bool) → whole ≡ true → Came trayAtStart new whole → PrintedWhole new
+      by-end : (told : Bool) → told ≡ true → Came trayAtStart new told → PrintedWhole new
       by-end _ is (finished {input} {text} done) =
           record {
             input = input;
             text = text;
             is-finished = done;
-            as-defined = pieces-print-the-whole input text new done;
+            as-defined = finished-prints trayAtStart input text new done;
           }
       by-end _ is (broken-off _) = absurd (let z : _≡_ {A = ℕ} 0 1 = cc in omega arith)
       by-end _ is (spent _ _) = absurd (let z : _≡_ {A = ℕ} 0 1 = cc in omega arith)
