@@ -1,5 +1,6 @@
 // Refusals of the actions in the library's order 1, 4, 3, 8: a row has every fault from its own
-// number on. What is refused leaves the state and the RAM as they were given.
+// number on. What is refused leaves the state and the RAM as they were given. The words of a row:
+// action, words of RAM, unfit (1) or fit (0), one or two arguments, refusal.
 use crate::notation;
 use crate::traffic;
 use card::sent;
@@ -8,9 +9,6 @@ use queue::Ring;
 use terminal::actions::Done;
 use terminal::state::Core;
 use terminal::state::Terminal;
-
-// The bytes of a row: action, words of RAM, unfit (1) or fit (0), one or two arguments, refusal.
-pub const ROW_BYTES: usize = 12;
 
 // Actions; 4 is a queue read.
 const WORD: u16 = 1;
@@ -24,66 +22,6 @@ const TABLE: u16 = 5;
 const FLAGS: u16 = 6;
 
 const PART: u16 = 7;
-
-// Puts the rows into a buffer.
-pub fn read_rows(out: &mut [u8]) -> usize {
-    notation::read_hex(
-        b"
-# marks
-0001 0000 0001 0010 0000 0001
-0001 3FFF 0001 0010 0000 0001
-0001 4001 0000 0006 0000 0001
-0001 4000 0001 0010 0000 0004
-0001 4000 0001 0006 0000 0004
-0001 4000 0000 0010 0000 0008
-0001 4000 0000 00FF 0000 0008
-0001 4000 0000 000F 0000 0000
-# line
-0002 3FFF 0001 0002 0000 0001
-0002 4001 0000 0000 0000 0001
-0002 4000 0001 0002 0000 0004
-0002 4000 0000 0002 0000 0008
-0002 4000 0000 00FF 0000 0008
-0002 4000 0000 0001 0000 0000
-# address, count of words
-0003 3FFF 0001 3FFF 0002 0001
-0003 4001 0000 0000 0001 0001
-0003 4000 0001 3FFF 0002 0004
-0003 4000 0000 3FFF 0002 0008
-0003 4000 0000 4000 0001 0008
-0003 4000 0000 FFFF 0001 0008
-0003 4000 0000 0000 0000 0008
-0003 4000 0000 0000 0041 0008
-0003 4000 0000 3FC0 0040 0000
-0003 4000 0000 3FFF 0001 0000
-# nothing but the state
-0004 0000 0001 0000 0000 0004
-0004 0000 0000 0000 0000 0000
-# table block
-0005 0000 0001 0100 0000 0004
-0005 0000 0000 0100 0000 0003
-0005 0000 0000 FFFF 0000 0003
-0005 0000 0000 00FF 0000 0000
-# flags
-0006 0000 0001 0040 0000 0004
-0006 0000 0000 0040 0000 0008
-0006 0000 0000 FFFF 0000 0008
-0006 0000 0000 003F 0000 0000
-# sent block, sent count
-0007 3FFF 0000 0100 0021 0001
-0007 4001 0000 0000 0001 0001
-0007 4000 0000 0100 0001 0008
-0007 4000 0000 0100 0021 0008
-0007 4000 0000 0000 0000 0008
-0007 4000 0000 0000 0021 0008
-0007 4000 0000 0000 0001 0000
-0007 4000 0000 00FF 0020 0000
-0007 4000 0000 00FF 0001 0000
-0007 4000 0001 0002 0020 0000
-",
-        out,
-    )
-}
 
 // ---- an action
 

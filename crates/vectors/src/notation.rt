@@ -1,6 +1,12 @@
-// How a case is written that is a recording:
+// How the cases are written, on standard input. A group begins with an at sign, its kind, a blank and
+// its name, to the line's end:
 //
-//     # what it shows
+//     r  recordings    m  messages    q  the queue
+//     s  setups        t  states      a  actions
+//
+// A case begins with a star. One that is a recording:
+//
+//     * what it shows
 //     the recording, in 01's notation: hex, blanks and semicolons for the eye only
 //     >the lines that it must print, a semicolon for the newline of each
 //     = remembered status, last command, marks, blocks that wait; then every nonzero cell, rising,
@@ -10,7 +16,7 @@
 // 0 where nothing is open, else the stage: 1 data, 2 second command, 3 awaiting status, 4 skipping.
 // Where no setup was taken, status, last command, marks and count are zero.
 //
-// A table is written in hex too, a row a line, and a remark from a number sign to the line's end.
+// Every other case is a row of words in hex. A remark goes from a number sign to the line's end.
 
 // A part of the text, empty where its ends are not in order.
 pub fn part(text: &[u8], start: usize, end: usize) -> &[u8] {
@@ -23,16 +29,25 @@ pub fn part(text: &[u8], start: usize, end: usize) -> &[u8] {
     &text[start..end]
 }
 
-// The place behind the first such byte from a place on, or the text's end.
-pub fn after(text: &[u8], from: usize, byte: u8) -> usize {
+// The place of the first such byte from a place on, or the text's end.
+pub fn place_of(text: &[u8], from: usize, byte: u8) -> usize {
     let mut at = from;
     while at < text.len() {
         if text[at] == byte {
-            return at + 1;
+            return at;
         }
         at += 1;
     }
     text.len()
+}
+
+// The place behind it, or the text's end.
+pub fn after(text: &[u8], from: usize, byte: u8) -> usize {
+    let at = place_of(text, from, byte);
+    if at < text.len() {
+        return at + 1;
+    }
+    at
 }
 
 // Puts a byte at a place, if there is room, and answers the next place.
@@ -133,7 +148,7 @@ pub fn read_hex(text: &[u8], out: &mut [u8]) -> usize {
     pairing.count
 }
 
-// ---- tables
+// ---- rows
 
 // A column of a row of bytes, 0 where the row has no such column.
 pub fn byte_in(row: &[u8], column: usize) -> u8 {

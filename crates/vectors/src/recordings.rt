@@ -1,8 +1,6 @@
-// Runs the cases of a group that are recordings: the printed lines, the state and the whole of the
-// card are compared.
+// Runs a case that is a recording: the printed lines, the state and the whole of the card are
+// compared.
 use crate::notation;
-use crate::report;
-use crate::report::Score;
 use check;
 use io;
 use message::state::Message;
@@ -62,15 +60,13 @@ fn put_state(out: &mut [u8], held: Held) -> usize {
     notation::put_byte(out, third, (ring.count % 256) as u8)
 }
 
-// Where no setup was taken there is no state.
+// Where no setup was taken there is no state, and its bytes stay zero.
 fn put_begun(out: &mut [u8], run: Run) -> usize {
     if run.begun {
         let held = run.held;
         return put_state(out, held);
     }
-    let first = notation::put_word(out, 0, 0);
-    let second = notation::put_word(out, first, 0);
-    notation::put_word(out, second, 0)
+    6
 }
 
 fn put_cell(out: &mut [u8], at: usize, address: u16, word: u16) -> usize {
@@ -113,78 +109,42 @@ fn run_recording(recording: &[u8], lines: &mut [u8], state: &mut [u8]) -> Sizes 
     }
 }
 
-// Where the parts of a case begin, and where the case ends.
-struct Case {
-    recording: usize,
-    lines: usize,
-    state: usize,
-    end: usize,
-}
-
-// The case whose title begins at a place.
-fn case_at(text: &[u8], title: usize) -> Case {
-    let recording = notation::after(text, title, b'\n');
-    let lines = notation::after(text, recording, b'>');
-    let state = notation::after(text, lines, b'=');
-    let end = notation::after(text, state, b'#');
-    Case {
-        recording: recording,
-        lines: lines,
-        state: state,
-        end: end,
-    }
-}
-
-// Whether the lines that were printed are those of the case.
-fn lines_hold(text: &[u8], case: Case, lines: &[u8]) -> bool {
+// Whether the lines that were printed are those of the text.
+fn lines_hold(text: &[u8], lines: &[u8]) -> bool {
     let mut bytes = io::buffer();
     let wanted: &mut [u8] = &mut bytes;
-    let count = notation::read_lines(notation::part(text, case.lines, case.state), wanted);
+    let count = notation::read_lines(text, wanted);
     check::same(notation::part(wanted, 0, count), lines)
 }
 
-// Whether the state and the cells are those of the case.
-fn state_holds(text: &[u8], case: Case, state: &[u8]) -> bool {
+// Whether the state and the cells are those of the text.
+fn state_holds(text: &[u8], state: &[u8]) -> bool {
     let mut bytes = io::buffer();
     let wanted: &mut [u8] = &mut bytes;
-    let count = notation::read_hex(notation::part(text, case.state, case.end), wanted);
+    let count = notation::read_hex(text, wanted);
     check::same(notation::part(wanted, 0, count), state)
 }
 
-// Whether a recording comes out as the case has it.
-fn recording_holds(text: &[u8], case: Case, recording: &[u8]) -> bool {
+// Whether a recording leaves the lines of a text, and the state of another.
+fn recording_holds(recording: &[u8], printed: &[u8], left: &[u8]) -> bool {
     let mut first = io::buffer();
     let lines: &mut [u8] = &mut first;
     let mut second = io::buffer();
     let state: &mut [u8] = &mut second;
     let sizes = run_recording(recording, lines, state);
-    let right = lines_hold(text, case, notation::part(lines, 0, sizes.lines));
-    right & state_holds(text, case, notation::part(state, 0, sizes.state))
+    let right = lines_hold(printed, notation::part(lines, 0, sizes.lines));
+    right & state_holds(left, notation::part(state, 0, sizes.state))
 }
 
-fn holds(text: &[u8], case: Case) -> bool {
+// Whether a case comes out as it should.
+pub fn holds(text: &[u8]) -> bool {
+    let start = notation::after(text, 0, b'\n');
+    let lines = notation::after(text, start, b'>');
+    let state = notation::after(text, lines, b'=');
     let mut bytes = io::buffer();
     let recording: &mut [u8] = &mut bytes;
-    let count = notation::read_hex(notation::part(text, case.recording, case.lines), recording);
-    recording_holds(text, case, notation::part(recording, 0, count))
-}
-
-// ---- a group
-
-// Every case of a group's text.
-pub fn run(name: &[u8], text: &[u8]) -> Score {
-    let mut score = Score::none();
-    let mut at = notation::after(text, 0, b'#');
-    let mut left = text.len();
-    while left > 0 {
-        if text.len() <= at {
-            break;
-        }
-        let case = case_at(text, at);
-        score = report::judge(score, name, holds(text, case));
-        at = case.end;
-        left -= 1;
-    }
-    report::print_score(name, score);
-    score
+    let count = notation::read_hex(notation::part(text, start, lines), recording);
+    let printed = notation::part(text, lines, state);
+    let left = notation::part(text, state, text.len());
+    recording_holds(notation::part(recording, 0, count), printed, left)
 }

@@ -1,29 +1,8 @@
-// Setup: refusals 2, 3 and 8 in this order; what is taken is as 01 has it at setup.
+// Setup: refusals 2, 3 and 8 in this order; what is taken is as 01 has it at setup. The words of a
+// row: station, table block, flags, refusal.
 use crate::notation;
 use terminal::actions::Done;
 use terminal::state::Terminal;
-
-// The bytes of a row: station, table block, flags, refusal.
-pub const ROW_BYTES: usize = 8;
-
-// Puts the rows into a buffer.
-pub fn read_rows(out: &mut [u8]) -> usize {
-    notation::read_hex(
-        b"
-0000 0000 0000 0000
-0005 0001 0000 0000
-001E 00FF 003F 0000
-001F 0001 0000 0002
-001F 0100 0040 0002
-FFFF FFFF FFFF 0002
-001E 0100 0000 0003
-001E 0100 0040 0003
-001E 00FF 0040 0008
-001E 00FF FFFF 0008
-",
-        out,
-    )
-}
 
 // All but station, table and flags is zero, save the remembered status.
 fn is_set_up(terminal: Terminal, station: u16, table: u16, flags: u16) -> bool {

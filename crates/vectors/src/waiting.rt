@@ -1,15 +1,10 @@
 // The queue: empty, full, past full, and with freed places used again. Blocks 2 and 3 are each
-// other's link, so they come in turn.
-use crate::report;
-use crate::report::Score;
+// other's link, so they come in turn. The words of a row: so many messages, so many reads, more
+// messages, and reads of what is left, from the first block (0) or the second (1) on; the overflow
+// mark, or 0.
+use crate::notation;
 use crate::traffic;
 use terminal::state::Terminal;
-
-fn prepare(ram: &mut [u16]) {
-    traffic::put_cell(ram, 99, 0x4002);
-    traffic::put_cell(ram, 191, 0x4003);
-    traffic::put_cell(ram, 255, 0x4002);
-}
 
 // A message that sends one word.
 fn message(terminal: Terminal, ram: &mut [u16]) -> Terminal {
@@ -54,91 +49,34 @@ fn read_blocks(old: Reads, times: u16, first: u16, mark: u16) -> Reads {
     left
 }
 
-// A case: so many messages, so many reads, more messages, and reads of what is left, from the first
-// block or the second on; with the overflow mark or without.
-struct Case {
-    messages: u16,
-    reads: u16,
-    more: u16,
-    left: u16,
-    first: u16,
-    mark: u16,
-}
-
-fn run_case(ram: &mut [u16], case: Case) -> Reads {
-    let filled = messages(traffic::fresh(0), ram, case.messages);
+fn run_row(ram: &mut [u16], row: &[u8], mark: u16) -> Reads {
+    let filled = messages(traffic::fresh(0), ram, notation::word_in(row, 0));
     let start = Reads {
         terminal: filled,
         right: true,
     };
-    let some = read_blocks(start, case.reads, 0, case.mark);
+    let some = read_blocks(start, notation::word_in(row, 1), 0, mark);
     let terminal = some.terminal;
     let again = Reads {
-        terminal: messages(terminal, ram, case.more),
+        terminal: messages(terminal, ram, notation::word_in(row, 2)),
         right: some.right,
     };
-    read_blocks(again, case.left, case.first, case.mark)
+    read_blocks(
+        again,
+        notation::word_in(row, 3),
+        notation::word_in(row, 4),
+        mark,
+    )
 }
 
-// Then the queue is empty.
-fn holds(case: Case) -> bool {
+// Whether a row comes out as it should. Then the queue is empty.
+pub fn holds(row: &[u8]) -> bool {
     let mut cells: [u16; 16384] = [0; 16384];
     let ram: &mut [u16] = &mut cells;
-    prepare(ram);
-    let blocks = run_case(ram, case);
-    let empty = read(blocks, case.mark);
-    let still = read(empty, case.mark);
+    traffic::prepare(ram);
+    let mark = notation::word_in(row, 5);
+    let blocks = run_row(ram, row, mark);
+    let empty = read(blocks, mark);
+    let still = read(empty, mark);
     still.right
-}
-
-fn judge(score: Score, case: Case) -> Score {
-    report::judge(score, b"queue", holds(case))
-}
-
-const EMPTY: Case = Case {
-    messages: 0,
-    reads: 0,
-    more: 0,
-    left: 0,
-    first: 0,
-    mark: 0,
-};
-
-const FULL: Case = Case {
-    messages: 256,
-    reads: 0,
-    more: 0,
-    left: 256,
-    first: 0,
-    mark: 0,
-};
-
-// The 257th is lost, and overflow is never cleared.
-const OVERFLOW: Case = Case {
-    messages: 257,
-    reads: 0,
-    more: 0,
-    left: 256,
-    first: 0,
-    mark: 0x0400,
-};
-
-// Freed places are used again.
-const FREED: Case = Case {
-    messages: 256,
-    reads: 3,
-    more: 3,
-    left: 256,
-    first: 1,
-    mark: 0,
-};
-
-pub fn run() -> Score {
-    let none = Score::none();
-    let first = judge(none, EMPTY);
-    let second = judge(first, FULL);
-    let third = judge(second, OVERFLOW);
-    let fourth = judge(third, FREED);
-    report::print_score(b"queue", fourth);
-    fourth
 }

@@ -1,14 +1,14 @@
--- `vectors::recordings::run` meets its contract. The loop turns at most as often as the text has
+-- `vectors::groups::run_cases` meets its contract. The loop turns at most as often as the text has
 -- bytes. Assumes nothing.
 use borrow.Author.Needs.{needs}
-use Rattle.vectors.proofs.recordings.run.Statement.{statement}
-use Rattle.vectors.proofs.recordings.run.Tie as tie
+use Rattle.vectors.proofs.groups.run_cases.Statement.{statement}
+use Rattle.vectors.proofs.groups.run_cases.Tie as tie
 
 abbrev Inv-loop : tie.InvT-loop
-Inv-loop name text score₀ at₀ left₀ score at left = Unit {0}
+Inv-loop name kind text score₀ at₀ left₀ score at left = Unit {0}
 
 abbrev μ-loop : tie.MeasureT-loop
-μ-loop name text score₀ at₀ left₀ score at left = left
+μ-loop name kind text score₀ at₀ left₀ score at left = left
 
 none-requires : tie.Need-none-requires Inv-loop μ-loop
 none-requires c κs = search needs
@@ -19,8 +19,11 @@ after-requires c κs = search needs
 loop-holds : tie.Need-loop-holds Inv-loop μ-loop
 loop-holds c = tt
 
-case-at-requires : tie.Need-case-at-requires Inv-loop μ-loop
-case-at-requires c κs = search needs
+after-requires-2 : tie.Need-after-requires-2 Inv-loop μ-loop
+after-requires-2 c = search needs
+
+part-requires : tie.Need-part-requires Inv-loop μ-loop
+part-requires c κs = search needs
 
 holds-requires : tie.Need-holds-requires Inv-loop μ-loop
 holds-requires c κs = search needs
@@ -37,14 +40,14 @@ loop-less c = search needs
 loop-again : tie.Need-loop-again Inv-loop μ-loop
 loop-again c = tt
 
-print-score-requires : tie.Need-print-score-requires Inv-loop μ-loop
-print-score-requires c κs = search needs
-
 returns : tie.Need-returns Inv-loop μ-loop
 returns c = search needs
 
-pub run-spec : {M : Type 1} → statement M
-run-spec =
+returns-2 : tie.Need-returns-2 Inv-loop μ-loop
+returns-2 c = search needs
+
+pub run-cases-spec : {M : Type 1} → statement M
+run-cases-spec =
     tie.close
     (tie.spec
     Inv-loop
@@ -52,11 +55,12 @@ run-spec =
     none-requires
     after-requires
     loop-holds
-    case-at-requires
+    after-requires-2
+    part-requires
     holds-requires
     judge-requires
     sub-left
     loop-less
     loop-again
-    print-score-requires
-    returns)
+    returns
+    returns-2)

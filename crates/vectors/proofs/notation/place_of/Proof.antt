@@ -1,10 +1,10 @@
--- `vectors::notation::after` meets its contract. The measure is what is left of the text. Assumes
+-- `vectors::notation::place_of` meets its contract. The measure is what is left of the text. Assumes
 -- nothing.
 use Prim.Native.Nat.{_-_}
 use lib.ListN.{length}
 use borrow.Author.Needs.{needs}
-use Rattle.vectors.proofs.notation.after.Statement.{statement}
-use Rattle.vectors.proofs.notation.after.Tie as tie
+use Rattle.vectors.proofs.notation.place_of.Statement.{statement}
+use Rattle.vectors.proofs.notation.place_of.Tie as tie
 
 abbrev Inv-loop : tie.InvT-loop
 Inv-loop text from byte at₀ at = Unit {0}
@@ -17,9 +17,6 @@ loop-holds c = tt
 
 shared-slice-read-if1 : tie.Need-shared-slice-read-if1 Inv-loop μ-loop
 shared-slice-read-if1 c = search needs
-
-add-result : tie.Need-add-result Inv-loop μ-loop
-add-result c = search needs
 
 returns : tie.Need-returns Inv-loop μ-loop
 returns c = search needs
@@ -36,15 +33,14 @@ loop-again c = tt
 returns-2 : tie.Need-returns-2 Inv-loop μ-loop
 returns-2 c = search needs
 
-pub after-spec : {M : Type 1} → statement M
-after-spec =
+pub place-of-spec : {M : Type 1} → statement M
+place-of-spec =
     tie.close
     (tie.spec
     Inv-loop
     μ-loop
     loop-holds
     shared-slice-read-if1
-    add-result
     returns
     add-at
     loop-less

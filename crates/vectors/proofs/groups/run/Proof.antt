@@ -1,0 +1,66 @@
+-- `vectors::groups::run` meets its contract. The loop turns at most as often as the text has bytes.
+-- Assumes nothing.
+use borrow.Author.Needs.{needs}
+use Rattle.vectors.proofs.groups.run.Statement.{statement}
+use Rattle.vectors.proofs.groups.run.Tie as tie
+
+abbrev Inv-loop : tie.InvT-loop
+Inv-loop text score₀ at₀ left₀ score at left = Unit {0}
+
+abbrev μ-loop : tie.MeasureT-loop
+μ-loop text score₀ at₀ left₀ score at left = left
+
+none-requires : tie.Need-none-requires Inv-loop μ-loop
+none-requires c κs = search needs
+
+after-requires : tie.Need-after-requires Inv-loop μ-loop
+after-requires c κs = search needs
+
+loop-holds : tie.Need-loop-holds Inv-loop μ-loop
+loop-holds c = tt
+
+after-requires-2 : tie.Need-after-requires-2 Inv-loop μ-loop
+after-requires-2 c = search needs
+
+part-requires : tie.Need-part-requires Inv-loop μ-loop
+part-requires c κs = search needs
+
+run-group-requires : tie.Need-run-group-requires Inv-loop μ-loop
+run-group-requires c κs = search needs
+
+plus-requires : tie.Need-plus-requires Inv-loop μ-loop
+plus-requires c κs = search needs
+
+sub-left : tie.Need-sub-left Inv-loop μ-loop
+sub-left c = search needs
+
+loop-less : tie.Need-loop-less Inv-loop μ-loop
+loop-less c = search needs
+
+loop-again : tie.Need-loop-again Inv-loop μ-loop
+loop-again c = tt
+
+returns : tie.Need-returns Inv-loop μ-loop
+returns c = search needs
+
+returns-2 : tie.Need-returns-2 Inv-loop μ-loop
+returns-2 c = search needs
+
+pub run-spec : {M : Type 1} → statement M
+run-spec =
+    tie.close
+    (tie.spec
+    Inv-loop
+    μ-loop
+    none-requires
+    after-requires
+    loop-holds
+    after-requires-2
+    part-requires
+    run-group-requires
+    plus-requires
+    sub-left
+    loop-less
+    loop-again
+    returns
+    returns-2)
