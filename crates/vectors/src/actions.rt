@@ -10,8 +10,8 @@ use terminal::actions::Done;
 use terminal::state::Core;
 use terminal::state::Terminal;
 
-// Actions; 4 is a queue read.
-const WORD: u16 = 1;
+// Actions; 4 is a queue read. All but the last take a state.
+pub const WORD: u16 = 1;
 
 const SILENCE: u16 = 2;
 
@@ -21,7 +21,7 @@ const TABLE: u16 = 5;
 
 const FLAGS: u16 = 6;
 
-const PART: u16 = 7;
+pub const PART: u16 = 7;
 
 // ---- an action
 
@@ -97,7 +97,8 @@ fn perform_alone(terminal: Terminal, action: u16, argument: u16) -> Done {
     read(terminal)
 }
 
-fn perform(terminal: Terminal, ram: &mut [u16], action: u16, first: u16, second: u16) -> Done {
+// An action with one or two arguments.
+pub fn perform(terminal: Terminal, ram: &mut [u16], action: u16, first: u16, second: u16) -> Done {
     if action == WORD {
         return word(terminal, ram, first);
     }

@@ -1,6 +1,6 @@
 // Worked cases, run through the compiled library and compared with what they should be: a line for
-// each group, as `mode codes 256 of 256`, and a line for each case that differs. The cases are data,
-// on standard input, since a case that is code, or a byte of a literal, costs time to prove and says
+// each group, as `mode codes 256 of 256`, and a line for each case that differs. The cases are
+// data, on standard input: as code, or as bytes of a literal, they would take long to check and say
 // no more. `notation` says how they are written, `groups` walks them. `recordings` runs those that
 // are recordings; the others call the library's actions: `messages` whole messages, `waiting` the
 // queue, and `setups`, `states` and `actions` refusals.

@@ -11,7 +11,7 @@
 //     7  last command
 //     8  what a queue read then gives
 //     9  data words stored, from cell 0080 on
-//    10  other cells that are then as they were not, as address and word
+//    10  every other cell that the message writes, as address and word
 use crate::notation;
 use crate::traffic;
 use card::sent;

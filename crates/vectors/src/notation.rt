@@ -1,5 +1,5 @@
-// How the cases are written, on standard input. A group begins with an at sign, its kind, a blank and
-// its name, to the line's end:
+// How the cases are written, on standard input. A group begins with an at sign, its kind, a blank
+// and its name, to the line's end:
 //
 //     r  recordings    m  messages    q  the queue
 //     s  setups        t  states      a  actions

@@ -1,7 +1,6 @@
 // What the program prints, and the count of cases.
 use io;
 use libc::STDOUT_FILENO;
-use lines;
 use std::num;
 
 // How many cases were tried, and how many came out as they should.
@@ -23,38 +22,25 @@ impl Score {
     }
 }
 
-fn write(out: &[u8], end: usize) {
-    if out.len() < end {
-        return;
-    }
-    io::write_all(STDOUT_FILENO, &out[0..end]);
-}
-
 // A group's name and a number after a blank.
-fn put_named(out: &mut [u8], name: &[u8], number: u64) -> usize {
-    let first = lines::text(out, 0, name);
-    let second = lines::text(out, first, b" ");
-    lines::decimal(out, second, number)
+fn print_named(name: &[u8], number: u64) {
+    io::write_all(STDOUT_FILENO, name);
+    io::write_all(STDOUT_FILENO, b" ");
+    io::print_decimal(STDOUT_FILENO, number);
 }
 
 // The line of a group, as `rules 31 of 31`.
 pub fn print_score(name: &[u8], score: Score) {
-    let mut bytes = io::buffer();
-    let out: &mut [u8] = &mut bytes;
-    let first = put_named(out, name, score.right);
-    let second = lines::text(out, first, b" of ");
-    let third = lines::decimal(out, second, score.tried);
-    let end = lines::text(out, third, b"\n");
-    write(out, end);
+    print_named(name, score.right);
+    io::write_all(STDOUT_FILENO, b" of ");
+    io::print_decimal(STDOUT_FILENO, score.tried);
+    io::write_all(STDOUT_FILENO, b"\n");
 }
 
 // The line of a case that differs, as `rules 7 differs`.
 fn print_difference(name: &[u8], number: u64) {
-    let mut bytes = io::buffer();
-    let out: &mut [u8] = &mut bytes;
-    let first = put_named(out, name, number);
-    let end = lines::text(out, first, b" differs\n");
-    write(out, end);
+    print_named(name, number);
+    io::write_all(STDOUT_FILENO, b" differs\n");
 }
 
 // One case more. Cases are counted from 1 within their group.

@@ -1,7 +1,8 @@
 // States that are fit and states that are not, refusal 4: each state is given to every action that
-// takes one. The words of a row: station, table block, flags; queue start, count, and place 200; the
-// open command, its block, table block and words taken, the second command (0 for none), the stage;
-// the refusal.
+// takes one. The words of a row: station, table block, flags; queue start, count, and place 200;
+// the open command, its block, table block and words taken, the second command (0 for none), the
+// stage; the refusal.
+use crate::actions;
 use crate::notation;
 use message::state::Message;
 use message::state::OpenMessage;
@@ -100,32 +101,21 @@ fn terminal_of(row: &[u8]) -> Terminal {
 
 // ---- the cases
 
-// The actions that take the state alone.
-fn host_holds(state: Terminal, wanted: u16) -> bool {
-    let read = state.read_queue();
-    let moved = state.move_table(1);
-    let set = state.set_flags(0);
-    (read.refusal as u16 == wanted)
-        & (moved.refusal as u16 == wanted)
-        & (set.refusal as u16 == wanted)
-}
-
-// The actions that take the RAM too.
-fn bus_holds(state: Terminal, wanted: u16) -> bool {
-    let mut cells: [u16; 16384] = [0; 16384];
-    let ram: &mut [u16] = &mut cells;
-    let words: [u16; 1] = [7];
-    let heard = state.word(ram, 12, 1, 1);
-    let ended = state.silence(ram, 0, 2);
-    let written = state.host_write(ram, 0, &words);
-    (heard.refusal as u16 == wanted)
-        & (ended.refusal as u16 == wanted)
-        & (written.refusal as u16 == wanted)
+// Each action has arguments that it takes.
+fn action_holds(state: Terminal, ram: &mut [u16], action: u16, wanted: u16) -> bool {
+    let done = actions::perform(state, ram, action, 1, 1);
+    done.refusal as u16 == wanted
 }
 
 // Whether a row comes out as it should.
 pub fn holds(row: &[u8]) -> bool {
     let state = terminal_of(row);
     let wanted = notation::word_in(row, 12);
-    host_holds(state, wanted) & bus_holds(state, wanted)
+    let mut cells: [u16; 16384] = [0; 16384];
+    let ram: &mut [u16] = &mut cells;
+    let mut right = true;
+    for action in actions::WORD..actions::PART {
+        right = right & action_holds(state, ram, action, wanted);
+    }
+    right
 }

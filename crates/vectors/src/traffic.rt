@@ -51,8 +51,8 @@ pub fn put_cells(ram: &mut [u16], row: &[u8]) {
 }
 
 // Receives and transmits of subaddress 3 have the chain of block 2, and each of the three chains of
-// mode commands has a block of its own: 2, 3 and 4. Each wants the queue, and has a word in its cell
-// 0 and a link. Blocks 2 and 3 are each other's link.
+// mode commands has a block of its own: 2, 3 and 4. Each wants the queue, and has a word in its
+// cell 0 and a link. Blocks 2 and 3 are each other's link.
 pub fn prepare(ram: &mut [u16]) {
     let mut bytes = io::buffer();
     let row: &mut [u8] = &mut bytes;

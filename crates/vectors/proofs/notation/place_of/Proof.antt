@@ -1,5 +1,5 @@
--- `vectors::notation::place_of` meets its contract. The measure is what is left of the text. Assumes
--- nothing.
+-- `vectors::notation::place_of` meets its contract. The measure is what is left of the text.
+-- Assumes nothing.
 use Prim.Native.Nat.{_-_}
 use lib.ListN.{length}
 use borrow.Author.Needs.{needs}
