@@ -15,7 +15,7 @@ module _ (recording ram out : List ℕ) where
   abbrev number : ℕ
   number = sizeRefusal (length recording) (length ram) (length out)
 
-  used : number ≡ 0
+  pub used : number ≡ 0
       → lentRun recording ram out ≡ lentAfter (wholeFrom (trayOver ram) recording) out
   unfolding lentRun
   used is = rw (eq-eqb number 0 is)

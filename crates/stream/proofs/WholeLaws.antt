@@ -2,18 +2,17 @@
 use mathlib.Core.Path.{_≡_, refl, sym, ap, subst, _∙_}
 use mathlib.Core.Bool.{Bool, true}
 use mathlib.Core.List.{List, []}
-use Prim.Native.Nat.{ℕ, zero, suc, _<_}
+use Prim.Native.Nat.{ℕ}
 use native.Mathlib.Omega.{arith}
 use lib.ListN.{replicate}
 use Rattle.card.specs.Memory.{cardWords}
 use Rattle.queue.specs.Queue.{queuePlaces}
 use Rattle.recording.specs.Reading.{readAt}
 use Rattle.lines.specs.Written.{lineRoom}
-use Rattle.tray.specs.declared.Stop.the-variants.{Going, Over}
-use Rattle.tray.specs.Run.{Tray, trayAtStart, whole, wholeFrom}
+use Rattle.tray.specs.Run.{Tray, trayAtStart, whole, wholeOf, wholeBy, wholeFrom}
 use Rattle.tray.specs.Held.{trayOf, runAtStart}
-use Rattle.tray.specs.Window.{Passed, stoppedAt, passing, turn, turns, mostTurns, windowRun}
 use Rattle.tray.specs.Pieces.{begins, ends, Finished}
+use Rattle.tray.proofs.RoomLaws.{over-at-once, whole-tray}
 use Rattle.tray.proofs.PieceLaws.{finished-prints}
 use Rattle.stream.specs.Came.{Came, finished, broken-off, spent}
 
@@ -48,46 +47,27 @@ whole-run-prints new came =
 
 -- ---- how far the claim reaches
 
--- a call that is over stays so
-over-stays : (most : ℕ) (window : List ℕ) (last : Bool) (old : Passed) → old .stop ≡ Over
-    → turns most window last old ≡ old
-unfolding turns
-over-stays zero window last old is = refl
-over-stays (suc most) window last old is = rw is refl
-
--- a call over no bytes, which are the last
 module _ (start : Tray) where
-  abbrev begun : Passed
-  begun = record { tray = start; at = 0; put = 0; out = replicate lineRoom 0; stop = Going }
+  room : List ℕ
+  room = replicate lineRoom 0
 
-  turn-over : turn [] true begun .stop ≡ Over
-  unfolding turn passing readAt stoppedAt
-  turn-over = refl
-
-  turn-keeps : turn [] true begun .tray ≡ start
-  unfolding turn passing readAt stoppedAt
-  turn-keeps = refl
-
-  one-turn : (most : ℕ) → 0 < most → turns most [] true begun ≡ turn [] true begun
-  unfolding turns
-  one-turn zero some = absurd (omega (arith, some))
-  one-turn (suc most) some = over-stays most [] true (turn [] true begun) turn-over
-
-  is-turn : windowRun start [] true (replicate lineRoom 0) ≡ turn [] true begun
-  unfolding windowRun
-  is-turn = one-turn mostTurns (omega arith)
+  -- no bytes, which are the last, make nothing of a run
+  nothing-made : wholeFrom start [] .tray ≡ start
+  unfolding wholeFrom wholeBy wholeOf readAt
+  nothing-made = refl
 
   -- the input is not named, and a run of an empty one leaves all as it was
   pub empty-input-is-whole : Came start start true
+  unfolding room
   empty-input-is-whole =
       finished (record {
         ended = true;
         before = [];
         old = start;
         window = [];
-        out = replicate lineRoom 0;
+        out = room;
         streamed = ends begins;
-        is-over = ap (λ (any : Passed). any .stop) is-turn ∙ turn-over;
+        is-over = over-at-once [] room (omega arith) start (omega arith);
         is-text = refl;
-        is-new = sym (ap (λ (any : Passed). any .tray) is-turn ∙ turn-keeps);
+        is-new = sym (whole-tray [] room (omega arith) start (omega arith) ∙ nothing-made);
       })

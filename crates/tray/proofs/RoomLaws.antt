@@ -194,7 +194,7 @@ module _ (window first : List ℕ) (room : wholeRoom (length window) ≤ length 
         })
 
     -- it is over
-    over-at-once : call .stop ≡ Over
+    pub over-at-once : call .stop ≡ Over
     over-at-once =
         go (call .stop) (call-stops window true old first few-bytes)
         (last-call-waits-not window true refl old first) (call-roomy .not-full)
