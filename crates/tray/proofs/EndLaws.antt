@@ -18,7 +18,7 @@ use Rattle.lines.specs.Written.{put, lineRoom, lineWritten}
 use Rattle.lines.proofs.WrittenLaws.{length-written}
 use Rattle.tray.specs.declared.Stop.{Stop}
 use Rattle.tray.specs.declared.Stop.the-variants.{Going, Hungry, Full, Over}
-use Rattle.tray.specs.Run.{Tray, lastLine, takingLine}
+use Rattle.tray.specs.Run.{Tray, lastLine, taking, takingLine}
 use Rattle.tray.specs.Window.{
   Passed,
   stopping,
@@ -150,6 +150,27 @@ module _ (window : List ℕ) (last : Bool) where
           taken-within window (old′ .at) (old′ .tray .begun) is .ends-inside
       go old′ within End is = within
       go old′ within (Refused number place) is = within
+
+  -- where no setup has been read, no field was taken: all is as it was
+  pub unread-untouched : (old : Tray) (out : List ℕ)
+      → windowRun old window last out .tray .begun ≡ false
+      → windowRun old window last out .tray ≡ old
+  unfolding windowRun passing takes taking
+  unread-untouched old out =
+      turns-keep Untouched
+      (λ old′ is so-far.
+      by-turn Untouched old′ (λ _. so-far) (λ reading is′ room. go old′ so-far reading))
+      mostTurns (record { tray = old; at = 0; put = 0; out = out; stop = Going }) (λ _. refl)
+    where
+      Untouched : Passed → Type 0
+      Untouched new = new .tray .begun ≡ false → new .tray ≡ old
+
+      go : (old′ : Passed) → Untouched old′ → (reading : Reading)
+          → Untouched (passing reading window last old′)
+      go old′ so-far (Taken field next) begun =
+          absurd (let z : _≡_ {A = ℕ} 0 1 = cc in omega arith)
+      go old′ so-far End begun = so-far begun
+      go old′ so-far (Refused number place) begun = so-far begun
 
   -- ---- how it stops
 
