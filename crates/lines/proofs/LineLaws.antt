@@ -49,17 +49,17 @@ module _ {out : List ℕ} {at : ℕ} {out₁ after : List ℕ} {at₁ next : ℕ
         (wrote-then mark (wrote-then first second))
 
     pub queue-parts : (word : ℕ)
-        → Wrote out at (81 ∷ blank ∷ []) out₁ at₁ → Wrote out₁ at₁ (hexWord word) out₂ at₂
+        → Wrote out at (81 ∷ []) out₁ at₁ → Wrote out₁ at₁ (eachWord (word ∷ [])) out₂ at₂
         → Wrote out₂ at₂ (newline ∷ []) after next
         → Wrote out at (queueLine word) after next
-    unfolding queueLine
+    unfolding queueLine eachWord hexWord
     queue-parts word letter digits end = wrote-then letter (wrote-then digits end)
 
     pub status-parts : {out₃ : List ℕ} {at₃ : ℕ} (status : ℕ) (words : List ℕ)
-        → Wrote out at (83 ∷ blank ∷ []) out₁ at₁ → Wrote out₁ at₁ (hexWord status) out₂ at₂
+        → Wrote out at (83 ∷ []) out₁ at₁ → Wrote out₁ at₁ (eachWord (status ∷ [])) out₂ at₂
         → Wrote out₂ at₂ (eachWord words) out₃ at₃ → Wrote out₃ at₃ (newline ∷ []) after next
         → Wrote out at (statusLine status words) after next
-    unfolding statusLine
+    unfolding statusLine eachWord hexWord
     status-parts status words letter first rest end =
         wrote-then letter (wrote-then first (wrote-then rest end))
 

@@ -75,15 +75,29 @@ module _ {out : List ℕ} {at : ℕ} {text after : List ℕ} {next : ℕ}
 
 -- ---- hex
 
-pub digit-below-ten : (number digit : ℕ)
-    → number < 10 → digit ≡ 48 + number → digit ≡ hexDigit number
-unfolding hexDigit
-digit-below-ten number digit below is = rw (lt-ltb number 10 below) is
+pub digit-of : (number known digit : ℕ)
+    → number ≡ known → digit ≡ hexDigit known → digit ≡ hexDigit number
+digit-of number known digit is same = rw is same
 
-pub digit-from-ten : (number digit : ℕ)
-    → 10 ≤ number → digit ≡ 55 + number → digit ≡ hexDigit number
-unfolding hexDigit
-digit-from-ten number digit above is = rw (le-ltb number 10 above) is
+-- no number below a bound is this one
+abbrev pub NoneBelow : ℕ → ℕ → Type 0
+NoneBelow number zero = Unit
+NoneBelow number (suc bound) = NoneBelow number bound × (number ≡ bound → ⊥)
+
+none-below : (number bound : ℕ) → NoneBelow number bound → bound ≤ number
+none-below number zero none = omega arith
+none-below number (suc bound) none =
+    let so-far : bound ≤ number = none-below number bound (none .0) in
+    let other : number ≡ bound → ⊥ = none .1 in
+    omega arith
+
+pub digit-last : (number digit : ℕ)
+    → number < 16 → NoneBelow number 15 → digit ≡ hexDigit 15 → digit ≡ hexDigit number
+digit-last number digit below none same =
+    digit-of number 15 digit (last (none-below number 15 none) below) same
+  where
+    last : 15 ≤ number → number < 16 → _≡_ {A = ℕ} number 15
+    last least below = omega arith
 
 byte-digits : (byte high low : ℕ)
     → high ≡ hexDigit (byte / 16 % 16) → low ≡ hexDigit (byte % 16)

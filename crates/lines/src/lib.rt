@@ -40,8 +40,9 @@ pub fn status_line(out: &mut [u8], at: usize, status: u16, words: &[u16]) -> usi
     if left_from(out.len(), at) < LINE_ROOM {
         return at;
     }
-    let first = put_two(out, at, b'S', b' ');
-    let second = put_hex_word(out, first, status);
+    let head: [u16; 1] = [status];
+    let first = put_one(out, at, b'S');
+    let second = put_words(out, first, &head);
     let third = put_words(out, second, words);
     put_one(out, third, b'\n')
 }
@@ -54,8 +55,9 @@ pub fn queue_line(out: &mut [u8], at: usize, word: u16) -> usize
     if left_from(out.len(), at) < LINE_ROOM {
         return at;
     }
-    let first = put_two(out, at, b'Q', b' ');
-    let second = put_hex_word(out, first, word);
+    let words: [u16; 1] = [word];
+    let first = put_one(out, at, b'Q');
+    let second = put_words(out, first, &words);
     put_one(out, second, b'\n')
 }
 
@@ -195,10 +197,24 @@ fn hex_digit(number: u16) -> u8
     requires { ⌜ number < 16 ⌝ }
     ensures { λ digit. ⌜ digit ≡ hexDigit number ⌝ }
 {
-    if number < 10 {
-        return 48 + number as u8;
+    match number {
+        0 => b'0',
+        1 => b'1',
+        2 => b'2',
+        3 => b'3',
+        4 => b'4',
+        5 => b'5',
+        6 => b'6',
+        7 => b'7',
+        8 => b'8',
+        9 => b'9',
+        10 => b'A',
+        11 => b'B',
+        12 => b'C',
+        13 => b'D',
+        14 => b'E',
+        _ => b'F',
     }
-    55 + number as u8
 }
 
 fn put_hex_byte(out: &mut [u8], at: usize, byte: u8) -> usize

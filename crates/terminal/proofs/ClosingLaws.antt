@@ -5,9 +5,7 @@ use mathlib.Core.List.{List}
 use Prim.Native.Nat.{ℕ}
 use lib.Dec.{eqb}
 use borrow.Author.Tests.{eq-eqb, ne-eqb, not-true, not-false}
-use Rattle.bus.specs.declared.kind.Kind.{Kind}
 use Rattle.bus.specs.Command.{isBroadcast}
-use Rattle.bus.specs.Kind.{kindOf}
 use Rattle.bus.specs.Status.{withError}
 use Rattle.card.specs.Memory.{withService, withLink}
 use Rattle.card.specs.StateWord.{stateWord}
@@ -16,13 +14,10 @@ use Rattle.queue.specs.declared.Queue.{Queue}
 use Rattle.message.specs.declared.format.Format.{Format}
 use Rattle.message.specs.declared.state.OpenMessage.{OpenMessage}
 use Rattle.message.specs.declared.state.Message.the-variants.{Idle}
-use Rattle.terminal.specs.declared.closing.Ending.{Ending}
-use Rattle.terminal.specs.declared.closing.Ending.the-variants.{Sound, Fault}
 use Rattle.terminal.specs.declared.state.Shut.{Shut}
 use Rattle.terminal.specs.declared.state.Core.{Core}
 use Rattle.terminal.specs.declared.state.Reply.the-variants.{Silent, Status, Words, Last}
 use Rattle.message.specs.Message.{hasSecond}
-use Rattle.message.specs.Format.{formatBy, formatOf}
 use Rattle.terminal.specs.State.{card, withStatus, withSwitches, withMessage}
 use Rattle.terminal.specs.Closing.{
   unlessBusy,
@@ -38,13 +33,6 @@ use Rattle.terminal.specs.Closing.{
   switched,
   endWords,
   ended,
-}
-use Rattle.terminal.specs.Ending.{
-  codeOf,
-  movedWords,
-  endingState,
-  endingCore,
-  closedBy,
 }
 
 -- ---- the state word
@@ -127,23 +115,15 @@ pub ruleset replying = (reply-silent, reply-last, reply-status, reply-words)
 
 -- ---- the words of the state word
 
-pub moved-by : (ending known : Ending) (format : Format) (given : Bool) (taken words : ℕ)
-    → ending ≡ known → words ≡ movedWords known format given taken
-    → words ≡ movedWords ending format given taken
-moved-by ending known format given taken words is same = rw is same
-
-pub ending-state-is : (ending : Ending) (format : Format) (core : Core) (message : OpenMessage)
-    (code : ℕ) (given : Bool) (moved words state : ℕ)
-    → code ≡ codeOf ending
+pub end-words-are : (format : Format) (core : Core) (message : OpenMessage) (given : Bool)
+    (moved words : ℕ)
     → given ≡ replies core message
-    → moved ≡ movedWords ending format given (message .taken)
+    → moved ≡ cond (eqb (format .takes) 0) (cond given (format .sends) 0) (message .taken)
     → words ≡ unlessBusy format message moved
-    → state ≡ stateOf code words message
-    → state ≡ endingState ending format message core
-unfolding endingState
-ending-state-is ending format core message code given moved words state is-code is-given is-moved
-    is-words is-state =
-    rw (← is-code, ← is-given, ← is-moved, ← is-words) is-state
+    → words ≡ endWords format core message
+unfolding endWords
+end-words-are format core message given moved words is-given is-moved is-words =
+    rw (← is-given, ← is-moved) is-words
 
 -- ---- shut lines and inhibit
 
@@ -165,39 +145,26 @@ switch-is code line core shut inhibit is-shut is-inhibit = rw (is-shut, is-inhib
 
 -- ---- a fault, and the sound end
 
-module _ (ending : Ending) (format : Format) (message : OpenMessage) (old new : Core) where
-  pub core-at-end : ending ≡ Sound → new ≡ switched (format .switch) (message .line) old
-      → new ≡ endingCore ending format message old
-  core-at-end is is-new = rw is is-new
+module _ (format : Format) (time : ℕ) (message : OpenMessage) (old core idle : Core)
+    (queue joined : Queue) (ram left : List ℕ) (words state : ℕ)
+    (is-left : left ≡ closedRam format state time message ram)
+    (is-joined : joined ≡ closedQueue format message queue)
+    (is-idle : idle ≡ withMessage Idle core) where
+  pub fault-is : (code marked : ℕ)
+      → words ≡ unlessBusy format message (message .taken)
+      → state ≡ stateOf code words message
+      → marked ≡ withError (old .status)
+      → core ≡ withStatus marked old
+      → card idle joined left ≡ faulted format code time message (card old queue ram)
+  unfolding faulted closing
+  fault-is code marked is-words is-state is-marked is-core =
+      rw (is-idle, is-core, is-marked, is-joined, is-left, is-state, is-words)
 
-  pub core-at-fault : (code marked : ℕ) → ending ≡ Fault code → marked ≡ withError (old .status)
-      → new ≡ withStatus marked old → new ≡ endingCore ending format message old
-  core-at-fault code marked is is-marked is-new = rw (is, ← is-marked) is-new
-
-pub ruleset cores = (core-at-end, core-at-fault)
-
-closed-by : (ending : Ending) (format : Format) (time : ℕ) (message : OpenMessage) (core : Core)
-    (queue : Queue) (ram : List ℕ)
-    → closing format (endingState ending format message core) time message
-    (card (endingCore ending format message core) queue ram)
-    ≡ closedBy ending format time message (card core queue ram)
-unfolding closedBy faulted ended endingState endWords
-closed-by Sound format time message core queue ram = refl
-closed-by (Fault code) format time message core queue ram = refl
-
-pub close-is : (ending : Ending) (time : ℕ) (message : OpenMessage) (old core idle : Core)
-    (queue joined : Queue) (ram left : List ℕ) (kind : Kind) (format : Format) (state : ℕ)
-    → kind ≡ kindOf (message .command)
-    → format ≡ formatBy kind (message .command)
-    → state ≡ endingState ending format message old
-    → left ≡ closedRam format state time message ram
-    → joined ≡ closedQueue format message queue
-    → core ≡ endingCore ending format message old
-    → idle ≡ withMessage Idle core
-    → card idle joined left
-    ≡ closedBy ending (formatOf (message .command)) time message (card old queue ram)
-unfolding closing
-close-is ending time message old core idle queue joined ram left kind format state is-kind
-    is-format is-state is-left is-joined is-core is-idle =
-    rw (← is-kind, ← is-format, is-idle, is-core, is-joined, is-left, is-state)
-    (closed-by ending format time message old queue ram)
+  pub end-is :
+      words ≡ endWords format old message
+      → state ≡ stateOf 0 words message
+      → core ≡ switched (format .switch) (message .line) old
+      → card idle joined left ≡ ended format time message (card old queue ram)
+  unfolding ended closing
+  end-is is-words is-state is-core =
+      rw (is-idle, is-core, is-joined, is-left, is-state, is-words)

@@ -38,8 +38,10 @@ use Rattle.terminal.proofs.state.Core.open.Kinds as core-open-kinds
 use Rattle.terminal.proofs.state.Core.open.Reads as core-open-reads
 use Rattle.terminal.proofs.state.Core.reply.Kinds as core-reply-kinds
 use Rattle.terminal.proofs.state.Core.reply.Reads as core-reply-reads
-use Rattle.terminal.proofs.state.Core.close.Kinds as core-close-kinds
-use Rattle.terminal.proofs.state.Core.close.Reads as core-close-reads
+use Rattle.terminal.proofs.state.Core.fault.Kinds as core-fault-kinds
+use Rattle.terminal.proofs.state.Core.fault.Reads as core-fault-reads
+use Rattle.terminal.proofs.state.Core.end.Kinds as core-end-kinds
+use Rattle.terminal.proofs.state.Core.end.Reads as core-end-reads
 use Rattle.terminal.proofs.state.Core.word.Kinds as core-word-kinds
 use Rattle.terminal.proofs.state.Core.word.Reads as core-word-reads
 use Rattle.terminal.proofs.state.Core.silence.Kinds as core-silence-kinds
@@ -112,11 +114,17 @@ core-open κs arguments result result′ exit exit′ = same
 pub core-reply : Determined 0 core-reply-kinds.ps core-reply-kinds.r core-reply-reads.Post
 core-reply κs arguments result result′ exit exit′ = same
 
-pub core-close :
-    DeterminedAs 2 core-close-kinds.ps core-close-kinds.r core-close-reads.Post Card
+pub core-fault :
+    DeterminedAs 2 core-fault-kinds.ps core-fault-kinds.r core-fault-reads.Post Card
     (λ κs result exit. card (result .core)
     (queue (now (exit .1 .1 .1 .0)) (result .ring)) (now (exit .1 .1 .1 .1 .0)))
-core-close κs arguments result result′ exit exit′ = same
+core-fault κs arguments result result′ exit exit′ = same
+
+pub core-end :
+    DeterminedAs 2 core-end-kinds.ps core-end-kinds.r core-end-reads.Post Card
+    (λ κs result exit. card (result .core)
+    (queue (now (exit .1 .1 .0)) (result .ring)) (now (exit .1 .1 .1 .0)))
+core-end κs arguments result result′ exit exit′ = same
 
 pub core-word :
     DeterminedAs 2 core-word-kinds.ps core-word-kinds.r core-word-reads.Post Card

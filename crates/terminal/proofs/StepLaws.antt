@@ -22,12 +22,8 @@ use Rattle.message.specs.declared.state.OpenMessage.{OpenMessage}
 use Rattle.message.specs.declared.state.Message.{Message}
 use Rattle.message.specs.declared.state.Message.the-variants.{Idle, Open}
 use Rattle.message.specs.declared.state.Word.{Word}
-use Rattle.terminal.specs.declared.closing.Ending.{Ending}
-use Rattle.terminal.specs.declared.closing.Ending.the-variants as endings
 use Rattle.terminal.specs.declared.machine.WordDeed.{WordDeed}
 use Rattle.terminal.specs.declared.machine.WordDeed.the-variants as word-deeds
-use Rattle.terminal.specs.declared.machine.SilenceDeed.{SilenceDeed}
-use Rattle.terminal.specs.declared.machine.SilenceDeed.the-variants as silence-deeds
 use Rattle.terminal.specs.declared.state.Core.{Core}
 use Rattle.terminal.specs.declared.state.Held.{Held}
 use Rattle.terminal.specs.declared.state.Reply.{Reply}
@@ -38,7 +34,7 @@ use Rattle.message.specs.Words.{ownCommand, onWord}
 use Rattle.message.specs.Silence.{onSilence}
 use Rattle.terminal.specs.State.{Card, card, withMessage}
 use Rattle.terminal.specs.Opening.{openedAt, opening}
-use Rattle.terminal.specs.Ending.{closedBy}
+use Rattle.terminal.specs.Closing.{faulted, ended}
 use Rattle.terminal.specs.Event.{shown, seen, replied, opens, quietly}
 use Rattle.terminal.specs.WordStep.{wordDone, wordMet, wordStep}
 use Rattle.terminal.specs.SilenceStep.{silenceDone, silenceMet, silenceStep}
@@ -51,8 +47,6 @@ use Rattle.terminal.specs.Deed.{
   doneBy,
   opensBy,
   openedIf,
-  silenceDeed,
-  silenceDeedDone,
   replyTo,
 }
 
@@ -61,10 +55,6 @@ use Rattle.terminal.specs.Deed.{
 pub word-deed-of : (act known : WordAct) (message : OpenMessage) (deed : WordDeed)
     → act ≡ known → deed ≡ wordDeed known message → deed ≡ wordDeed act message
 word-deed-of act known message deed is same = rw is same
-
-pub silence-deed-of : (act known : SilenceAct) (deed : SilenceDeed)
-    → act ≡ known → deed ≡ silenceDeed known → deed ≡ silenceDeed act
-silence-deed-of act known deed is same = rw is same
 
 -- ---- the open message goes on
 
@@ -111,12 +101,14 @@ module _ (act : WordAct) (deed : WordDeed) (message : OpenMessage) (word : Word)
     word-stored taken stored held stores is-stored is-held =
         done-by _ (rw (stores, is-stored, is-held))
 
-    pub word-faulted : (code : ℕ) (new : Card) → deed ≡ word-deeds.Fault code
-        → new
-        ≡ closedBy (endings.Fault code) (formatOf (message .command)) (word .time) message before
+    pub word-faulted : (code : ℕ) (kind : Kind) (format : Format) (new : Card)
+        → deed ≡ word-deeds.Fault code
+        → kind ≡ kindOf (message .command) → format ≡ formatBy kind (message .command)
+        → new ≡ faulted format code (word .time) message before
         → new ≡ doneBy act word before
-    unfolding wordDeedDone closedBy
-    word-faulted code new faults is-new = done-by new (rw faults is-new)
+    unfolding wordDeedDone
+    word-faulted code kind format new faults is-kind is-format is-new =
+        done-by new (rw (faults, ← is-kind, ← is-format) is-new)
 
 pub idle-left : (act : WordAct) (word : Word) (core : Core) (places : List ℕ) (ring : Ring)
     (ram : List ℕ) → core .message ≡ Idle
@@ -210,46 +202,53 @@ pub ruleset word-opening = (word-left, word-opened)
 
 -- ---- a silence
 
-module _ (deed : SilenceDeed) (message : OpenMessage) (time : ℕ)
+module _ (act : SilenceAct) (format : Format) (message : OpenMessage) (time : ℕ)
     (core : Core) (places : List ℕ) (ring : Ring) (ram : List ℕ) where
   abbrev waiting : Card
   waiting = card core (queue places ring) ram
 
-  pub silence-rested : deed ≡ silence-deeds.Rest
-      → waiting ≡ silenceDeedDone deed message time waiting
-  unfolding silenceDeedDone
+  pub silence-rested : act ≡ silence-acts.Ignore
+      → waiting ≡ silenceDone act format message time waiting .card
+  unfolding silenceDone
   silence-rested is = rw is
 
-  pub status-awaited : (held : Held) → deed ≡ silence-deeds.AwaitStatus
+  pub status-awaited : (held : Held) → act ≡ silence-acts.AwaitStatus
       → held
       ≡ goingOn (further AwaitingStatus (message .second) (message .taken) message) core ring
       → card (held .core) (queue places (held .ring)) ram
-      ≡ silenceDeedDone deed message time waiting
-  unfolding silenceDeedDone
+      ≡ silenceDone act format message time waiting .card
+  unfolding silenceDone
   status-awaited held is is-held = rw (is, is-held)
 
-  pub silence-closed : (ending : Ending) (new : Card) → deed ≡ silence-deeds.Close ending
-      → new ≡ closedBy ending (formatOf (message .command)) time message waiting
-      → new ≡ silenceDeedDone deed message time waiting
-  unfolding silenceDeedDone
-  silence-closed ending new is is-new = rw is is-new
+  pub silence-faulted : (code : ℕ) (new : Card) → act ≡ silence-acts.Fault code
+      → new ≡ faulted format code time message waiting
+      → new ≡ silenceDone act format message time waiting .card
+  unfolding silenceDone
+  silence-faulted code new is is-new = rw is is-new
 
-pub ruleset silence-acting = (silence-rested, status-awaited, silence-closed)
+  pub silence-ended : (new : Card) → act ≡ silence-acts.End
+      → new ≡ ended format time message waiting
+      → new ≡ silenceDone act format message time waiting .card
+  unfolding silenceDone
+  silence-ended new is is-new = rw is is-new
+
+pub ruleset silence-acting = (silence-rested, status-awaited, silence-faulted, silence-ended)
 
 pub reply-of : (act known : SilenceAct) (format : Format) (message : OpenMessage) (core : Core)
     (reply : Reply) → act ≡ known → reply ≡ replyTo known format message core
     → reply ≡ replyTo act format message core
 reply-of act known format message core reply is same = rw is same
 
-deeds-of-silences : (act : SilenceAct) (message : OpenMessage) (time : ℕ) (old : Card)
-    → shown (silenceDeedDone (silenceDeed act) message time old)
-    (replied (replyTo act (formatOf (message .command)) message (old .core)))
-    ≡ seen (silenceDone act (formatOf (message .command)) message time old)
-unfolding silenceDeedDone closedBy silenceDone
-deeds-of-silences silence-acts.Ignore message time old = refl
-deeds-of-silences silence-acts.AwaitStatus message time old = refl
-deeds-of-silences (silence-acts.Fault code) message time old = refl
-deeds-of-silences silence-acts.End message time old = refl
+silences-reply : (act : SilenceAct) (format : Format) (message : OpenMessage) (time : ℕ)
+    (old : Card)
+    → shown (silenceDone act format message time old .card)
+    (replied (replyTo act format message (old .core)))
+    ≡ seen (silenceDone act format message time old)
+unfolding silenceDone
+silences-reply silence-acts.Ignore format message time old = refl
+silences-reply silence-acts.AwaitStatus format message time old = refl
+silences-reply (silence-acts.Fault code) format message time old = refl
+silences-reply silence-acts.End format message time old = refl
 
 module _ (line : Bool) (time : ℕ) (core : Core) (places : List ℕ) (ring : Ring) (ram : List ℕ) where
   abbrev silent-before : Card
@@ -267,17 +266,16 @@ module _ (line : Bool) (time : ℕ) (core : Core) (places : List ℕ) (ring : Ri
   idle-silent idle = silence-step-by Idle idle
 
   pub open-silent : (message : OpenMessage) (kind : Kind) (format : Format) (act : SilenceAct)
-      (reply : Reply) (deed : SilenceDeed) (new : Card) → core .message ≡ Open message
+      (reply : Reply) (new : Card) → core .message ≡ Open message
       → kind ≡ kindOf (message .command) → format ≡ formatBy kind (message .command)
       → act ≡ onSilence format message line
       → reply ≡ replyTo act format message core
-      → deed ≡ silenceDeed act
-      → new ≡ silenceDeedDone deed message time silent-before
+      → new ≡ silenceDone act format message time silent-before .card
       → shown new (replied reply) ≡ seen (silenceStep line time silent-before)
-  open-silent message kind format act reply deed new is is-kind is-format is-act is-reply is-deed
-      is-new =
-      rw (is-new, is-deed, is-reply, is-act, is-format, is-kind)
-      (deeds-of-silences (onSilence (formatOf (message .command)) message line) message time
-      silent-before) ∙ silence-step-by (Open message) is
+  open-silent message kind format act reply new is is-kind is-format is-act is-reply is-new =
+      rw (is-new, is-reply, is-act, is-format, is-kind)
+      (silences-reply (onSilence (formatOf (message .command)) message line)
+      (formatOf (message .command)) message time silent-before)
+      ∙ silence-step-by (Open message) is
 
 pub ruleset silence-meeting = (idle-silent, open-silent)

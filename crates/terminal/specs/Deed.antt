@@ -1,19 +1,14 @@
--- What words and silences do to the open message, one deed for the acts that do alike: the cut that
--- the code makes. What it comes to is said by `WordStep` and `SilenceStep`. Definitions only.
--- Assumes nothing.
+-- What words do to the open message, one deed for the acts that do alike, and what silences reply:
+-- the cut that the code makes. What it comes to is said by `WordStep` and `SilenceStep`. Definitions
+-- only. Assumes nothing.
 use mathlib.Core.Bool.{Bool, true, false, cond}
-use Prim.Native.Nat.{ℕ}
 use Rattle.card.specs.Memory.{withCell}
 use Rattle.message.specs.declared.format.Format.{Format}
 use Rattle.message.specs.declared.judge.WordAct.{WordAct}
 use Rattle.message.specs.declared.judge.WordAct.the-variants as word-acts
 use Rattle.message.specs.declared.judge.SilenceAct.{SilenceAct}
 use Rattle.message.specs.declared.judge.SilenceAct.the-variants as silence-acts
-use Rattle.message.specs.declared.state.Stage.the-variants.{
-  Data,
-  SecondCommand,
-  AwaitingStatus,
-}
+use Rattle.message.specs.declared.state.Stage.the-variants.{Data, SecondCommand}
 use Rattle.message.specs.declared.state.Second.the-variants.{Command}
 use Rattle.message.specs.declared.state.OpenMessage.{OpenMessage}
 use Rattle.message.specs.declared.state.Message.{Message}
@@ -22,18 +17,14 @@ use Rattle.message.specs.declared.state.Word.{Word}
 use Rattle.message.specs.Message.{further}
 use Rattle.message.specs.Format.{formatOf}
 use Rattle.message.specs.Words.{ownCommand, onWord}
-use Rattle.terminal.specs.declared.closing.Ending.the-variants as endings
 use Rattle.terminal.specs.declared.machine.WordDeed.{WordDeed}
 use Rattle.terminal.specs.declared.machine.WordDeed.the-variants as word-deeds
-use Rattle.terminal.specs.declared.machine.SilenceDeed.{SilenceDeed}
-use Rattle.terminal.specs.declared.machine.SilenceDeed.the-variants as silence-deeds
 use Rattle.terminal.specs.declared.state.Core.{Core}
 use Rattle.terminal.specs.declared.state.Reply.{Reply}
 use Rattle.terminal.specs.declared.state.Reply.the-variants.{Silent}
 use Rattle.terminal.specs.State.{Card, card, withMessage}
 use Rattle.terminal.specs.Opening.{opening}
 use Rattle.terminal.specs.Closing.{faulted, replyOf}
-use Rattle.terminal.specs.Ending.{closedBy}
 
 -- ---- a word
 
@@ -92,22 +83,6 @@ abbrev pub openedIf : Bool → Word → Card → Card
 openedIf opens word left = cond opens (opening word left) left
 
 -- ---- a silence
-
-abbrev pub silenceDeed : SilenceAct → SilenceDeed
-silenceDeed silence-acts.Ignore = silence-deeds.Rest
-silenceDeed silence-acts.AwaitStatus = silence-deeds.AwaitStatus
-silenceDeed (silence-acts.Fault code) = silence-deeds.Close (endings.Fault code)
-silenceDeed silence-acts.End = silence-deeds.Close endings.Sound
-
-unfoldable pub silenceDeedDone : SilenceDeed → OpenMessage → ℕ → Card → Card
-silenceDeedDone silence-deeds.Rest message time old = old
-silenceDeedDone silence-deeds.AwaitStatus message time old =
-    card
-    (withMessage (Open (further AwaitingStatus (message .second) (message .taken) message))
-    (old .core))
-    (old .queue) (old .ram)
-silenceDeedDone (silence-deeds.Close ending) message time old =
-    closedBy ending (formatOf (message .command)) time message old
 
 -- only a sound end is replied to
 abbrev pub replyTo : SilenceAct → Format → OpenMessage → Core → Reply

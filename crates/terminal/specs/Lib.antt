@@ -3,7 +3,6 @@
 --     State          what is held, a setter for each field, setup
 --     Opening        what an opening does
 --     Closing        closing, faults, and the sound end
---     Ending         closing by a fault or the sound end, in one, as the code does it
 --     Event          what happens to the terminal, and what comes of it
 --     WordStep       what rules 1 to 8 decide is done
 --     SilenceStep    what silence decides is done
@@ -16,7 +15,6 @@
 pub mod State
 pub mod Opening
 pub mod Closing
-pub mod Ending
 pub mod Event
 pub mod WordStep
 pub mod SilenceStep

@@ -1,52 +1,39 @@
 // Closing a message: by a fault, or by its sound end.
 ghost use mathlib.Core.Path.{_≡_};
 ghost use mathlib.Core.Bool.{cond, true, false};
+ghost use lib.Dec.{eqb};
 ghost use Rattle.queue.specs.Queue.{queue};
-ghost use Rattle.message.specs.Format.{formatOf};
 ghost use Rattle.terminal.specs.State.{card, withStatus, withMessage};
 ghost use Rattle.terminal.specs.Closing.{
   unlessBusy,
   stateOf,
   closedRam,
   closedQueue,
+  faulted,
   replies,
   replyOf,
   switchedShut,
   switchedInhibit,
   switched,
-};
-ghost use Rattle.terminal.specs.Ending.{
-  codeOf,
-  movedWords,
-  endingState,
-  endingCore,
-  closedBy,
+  endWords,
+  ended,
 };
 use crate::state::Core;
 use crate::state::Held;
 use crate::state::Reply;
 use crate::state::Shut;
 use bus::command;
-use bus::kind;
 use bus::status;
 use card::memory;
 use card::place::Block;
 use card::place::Cell;
 use card::state::State;
 use card::time;
-use message::format;
 use message::format::Format;
 use message::state;
 use message::state::Message;
 use message::state::OpenMessage;
 use queue::Ring;
-
-// How a message closes.
-pub enum Ending {
-    Sound,
-    // with a fault code
-    Fault(u16),
-}
 
 // Words stored or sent: none under busy where the format yields.
 fn unless_busy(format: Format, message: OpenMessage, words: u16) -> u16
@@ -181,62 +168,66 @@ impl Core {
         self
     }
 
-    // The state word, with the words stored or held by the reply given.
-    fn ending_state(self, ending: Ending, format: Format, message: OpenMessage) -> u16
-        ensures { λ state. ⌜ state ≡ endingState ending format message self ⌝ }
+    // The data words stored, or held by the reply given.
+    fn end_words(self, format: Format, message: OpenMessage) -> u16
+        ensures { λ words. ⌜ words ≡ endWords format self message ⌝ }
     {
-        let code = code_of(ending);
         let given = self.replies(message);
-        let moved = moved_words(ending, format, given, message.taken);
-        let words = unless_busy(format, message, moved);
-        state_of(code, words, message)
+        let moved = moved_words(format, given, message.taken);
+        unless_busy(format, message, moved)
     }
 
-    // A fault sets message error; at the sound end codes 4 to 8 act.
-    fn ending_core(self, ending: Ending, format: Format, message: OpenMessage) -> Core
-        ensures { λ core. ⌜ core ≡ endingCore ending format message self ⌝ }
-    {
-        match ending {
-            Ending::Sound => self.switch(format.switch, message.line),
-            Ending::Fault(_) => self.with_status(status::with_error(self.status)),
-        }
-    }
-
-    // The open message closes.
-    pub fn close(
+    // A fault closes the open message silently and sets message error.
+    pub fn fault(
         self,
-        ending: Ending,
+        code: u16,
         ring: Ring,
         places: &mut [u16; 256],
         ram: &mut [u16],
+        format: Format,
         time: u32,
         message: OpenMessage,
     ) -> Held
         ensures { λ held. ⌜ card (held .core)
             (queue (now (places .exit)) (held .ring)) (now (ram .exit))
-            ≡ closedBy ending (formatOf (message .command)) time message
+            ≡ faulted format code time message
             (card self (queue (now (places .entry)) ring) (now (ram .entry))) ⌝ }
     {
-        let kind = kind::kind_of(message.command);
-        let format = format::format_by(kind, message.command);
-        let state = self.ending_state(ending, format, message);
+        let words = unless_busy(format, message, message.taken);
+        let state = state_of(code, words, message);
         close_ram(ram, format, state, time, message);
         let joined = close_queue(ring, places, format, message);
-        let core = self.ending_core(ending, format, message);
+        let core = self.with_status(status::with_error(self.status));
         Held {
             core: core.with_message(Message::Idle),
             ring: joined,
         }
     }
-}
 
-// Code 0 is no fault.
-fn code_of(ending: Ending) -> u16
-    ensures { λ code. ⌜ code ≡ codeOf ending ⌝ }
-{
-    match ending {
-        Ending::Sound => 0,
-        Ending::Fault(code) => code,
+    // The sound end closes the open message; codes 4 to 8 act.
+    pub fn end(
+        self,
+        ring: Ring,
+        places: &mut [u16; 256],
+        ram: &mut [u16],
+        format: Format,
+        time: u32,
+        message: OpenMessage,
+    ) -> Held
+        ensures { λ held. ⌜ card (held .core)
+            (queue (now (places .exit)) (held .ring)) (now (ram .exit))
+            ≡ ended format time message
+            (card self (queue (now (places .entry)) ring) (now (ram .entry))) ⌝ }
+    {
+        let words = self.end_words(format, message);
+        let state = state_of(0, words, message);
+        close_ram(ram, format, state, time, message);
+        let joined = close_queue(ring, places, format, message);
+        let core = self.switch(format.switch, message.line);
+        Held {
+            core: core.with_message(Message::Idle),
+            ring: joined,
+        }
     }
 }
 
@@ -247,21 +238,17 @@ fn is_shut(shut: Shut, line: bool) -> bool
 }
 
 // What takes words has stored them; what sends has sent them where a reply was given.
-fn moved_words(ending: Ending, format: Format, given: bool, taken: u16) -> u16
-    ensures { λ words. ⌜ words ≡ movedWords ending format given taken ⌝ }
+fn moved_words(format: Format, given: bool, taken: u16) -> u16
+    ensures { λ words. ⌜ words
+        ≡ cond (eqb (format .takes) 0) (cond given (format .sends) 0) taken ⌝ }
 {
-    match ending {
-        Ending::Sound => {
-            if format.takes == 0 {
-                if given {
-                    return format.sends;
-                }
-                return 0;
-            }
-            taken
+    if format.takes == 0 {
+        if given {
+            return format.sends;
         }
-        Ending::Fault(_) => taken,
+        return 0;
     }
+    taken
 }
 
 // 4 shuts and 5 opens the other line; 8 opens both.

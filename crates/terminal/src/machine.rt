@@ -7,17 +7,8 @@ ghost use Rattle.message.specs.Message.{further};
 ghost use Rattle.terminal.specs.State.{card, withMessage};
 ghost use Rattle.terminal.specs.Event.{shown, seen, replied};
 ghost use Rattle.terminal.specs.WordStep.{wordStep};
-ghost use Rattle.terminal.specs.SilenceStep.{silenceStep};
-ghost use Rattle.terminal.specs.Deed.{
-  actOn,
-  wordDeed,
-  doneBy,
-  opensBy,
-  silenceDeed,
-  silenceDeedDone,
-  replyTo,
-};
-use crate::closing::Ending;
+ghost use Rattle.terminal.specs.SilenceStep.{silenceDone, silenceStep};
+ghost use Rattle.terminal.specs.Deed.{actOn, wordDeed, doneBy, opensBy, replyTo};
 use crate::state::Core;
 use crate::state::Heard;
 use crate::state::Held;
@@ -49,14 +40,7 @@ pub enum WordDeed {
     Fault(u16),
 }
 
-// What a silence does to the open message.
-pub enum SilenceDeed {
-    Rest,
-    AwaitStatus,
-    Close(Ending),
-}
-
-// The acts of a word, told by what they do: all faults close in one place.
+// The acts of a word, told by what they do: all faults are one deed.
 fn word_deed(act: WordAct, message: OpenMessage) -> WordDeed
     ensures { λ deed. ⌜ deed ≡ wordDeed act message ⌝ }
 {
@@ -88,18 +72,6 @@ fn opens_by(act: WordAct) -> bool
         WordAct::Fault(_) => false,
         WordAct::Supersede => true,
         WordAct::Drop => true,
-    }
-}
-
-// The acts of a silence, told by what they do: fault and sound end close in one place.
-fn silence_deed(act: SilenceAct) -> SilenceDeed
-    ensures { λ deed. ⌜ deed ≡ silenceDeed act ⌝ }
-{
-    match act {
-        SilenceAct::Ignore => SilenceDeed::Rest,
-        SilenceAct::AwaitStatus => SilenceDeed::AwaitStatus,
-        SilenceAct::Fault(code) => SilenceDeed::Close(Ending::Fault(code)),
-        SilenceAct::End => SilenceDeed::Close(Ending::Sound),
     }
 }
 
@@ -177,8 +149,9 @@ impl Core {
                 self.go_on(ring, message, Stage::Data, second, taken)
             }
             WordDeed::Fault(code) => {
-                let ending = Ending::Fault(code);
-                self.close(ending, ring, places, ram, word.time, message)
+                let kind = kind::kind_of(message.command);
+                let format = format::format_by(kind, message.command);
+                self.fault(code, ring, places, ram, format, word.time, message)
             }
         }
     }
@@ -219,28 +192,30 @@ impl Core {
     // What a silence does to the open message.
     fn silence_done(
         self,
-        deed: SilenceDeed,
+        act: SilenceAct,
         ring: Ring,
         places: &mut [u16; 256],
         ram: &mut [u16],
+        format: Format,
         message: OpenMessage,
         time: u32,
     ) -> Held
         ensures { λ held. ⌜ card (held .core)
             (queue (now (places .exit)) (held .ring)) (now (ram .exit))
-            ≡ silenceDeedDone deed message time
-            (card self (queue (now (places .entry)) ring) (now (ram .entry))) ⌝ }
+            ≡ silenceDone act format message time
+            (card self (queue (now (places .entry)) ring) (now (ram .entry))) .card ⌝ }
     {
-        match deed {
-            SilenceDeed::Rest => Held {
+        match act {
+            SilenceAct::Ignore => Held {
                 core: self,
                 ring: ring,
             },
-            SilenceDeed::AwaitStatus => {
+            SilenceAct::AwaitStatus => {
                 let second = message.second;
                 self.go_on(ring, message, Stage::AwaitingStatus, second, message.taken)
             }
-            SilenceDeed::Close(ending) => { self.close(ending, ring, places, ram, time, message) }
+            SilenceAct::Fault(code) => self.fault(code, ring, places, ram, format, time, message),
+            SilenceAct::End => self.end(ring, places, ram, format, time, message),
         }
     }
 
@@ -273,9 +248,8 @@ impl Core {
         let format = format::format_by(kind, message.command);
         let act = judge::on_silence(format, message, line);
         let reply = self.reply_to(act, format, message);
-        let deed = silence_deed(act);
         Heard {
-            held: self.silence_done(deed, ring, places, ram, message, time),
+            held: self.silence_done(act, ring, places, ram, format, message, time),
             reply: reply,
         }
     }

@@ -9,22 +9,25 @@ left-from-requires : tie.Need-left-from-requires
 left-from-requires c κs = search needs
 
 returns : tie.Need-returns
-returns c = search without-room
-
-put-two-requires : tie.Need-put-two-requires
-put-two-requires c κs = search needs
-
-put-hex-word-requires : tie.Need-put-hex-word-requires
-put-hex-word-requires c κs = search needs
+returns c = search (with-room, without-room, queue-parts)
 
 put-one-requires : tie.Need-put-one-requires
 put-one-requires c κs = search needs
+
+slice-aggregate-put-words : tie.Need-slice-aggregate-put-words
+slice-aggregate-put-words c = search needs
+
+put-words-requires : tie.Need-put-words-requires
+put-words-requires c κs = search needs
+
+put-one-requires-2 : tie.Need-put-one-requires-2
+put-one-requires-2 c κs = search needs
 
 same-length : tie.Need-same-length
 same-length c = search needs
 
 returns-2 : tie.Need-returns-2
-returns-2 c = search (with-room, queue-parts)
+returns-2 c = search (with-room, without-room, queue-parts)
 
 pub queue-line-spec : {M : Type 1} → statement M
 queue-line-spec =
@@ -32,8 +35,9 @@ queue-line-spec =
     (tie.spec
     left-from-requires
     returns
-    put-two-requires
-    put-hex-word-requires
     put-one-requires
+    slice-aggregate-put-words
+    put-words-requires
+    put-one-requires-2
     same-length
     returns-2)

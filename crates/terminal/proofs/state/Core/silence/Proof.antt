@@ -26,9 +26,6 @@ on-silence-requires c κs = search needs
 reply-to-requires : tie.Need-reply-to-requires
 reply-to-requires c κs = search needs
 
-silence-deed-requires : tie.Need-silence-deed-requires
-silence-deed-requires c κs = search needs
-
 silence-done-requires : tie.Need-silence-done-requires
 silence-done-requires c κs = search needs
 
@@ -49,7 +46,6 @@ silence-spec =
     format-by-requires
     on-silence-requires
     reply-to-requires
-    silence-deed-requires
     silence-done-requires
     same-length
     returns-2)

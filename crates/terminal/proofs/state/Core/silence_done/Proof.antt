@@ -1,4 +1,4 @@
--- `terminal::Core::silence_done` meets its contract: a law for each deed. Assumes nothing.
+-- `terminal::Core::silence_done` meets its contract: a law for each act. Assumes nothing.
 use borrow.Author.Needs.{needs}
 use Rattle.terminal.proofs.StepLaws.{silence-acting}
 use Rattle.terminal.proofs.state.Core.silence_done.Statement.{statement}
@@ -13,11 +13,17 @@ enum-told-2 c = search needs
 go-on-requires : tie.Need-go-on-requires
 go-on-requires c κs = search needs
 
-enum-known-deed : tie.Need-enum-known-deed
-enum-known-deed c = search needs
+enum-known-act : tie.Need-enum-known-act
+enum-known-act c = search needs
 
-close-requires : tie.Need-close-requires
-close-requires c κs = search needs
+fault-requires : tie.Need-fault-requires
+fault-requires c κs = search needs
+
+enum-told-3 : tie.Need-enum-told-3
+enum-told-3 c = search needs
+
+end-requires : tie.Need-end-requires
+end-requires c κs = search needs
 
 returns : tie.Need-returns
 returns c = search (needs, silence-acting) depth 9
@@ -31,6 +37,12 @@ same-length c = search needs
 returns-3 : tie.Need-returns-3
 returns-3 c = search (needs, silence-acting) depth 9
 
+same-length-2 : tie.Need-same-length-2
+same-length-2 c = search needs
+
+returns-4 : tie.Need-returns-4
+returns-4 c = search (needs, silence-acting) depth 9
+
 pub silence-done-spec : {M : Type 1} → statement M
 silence-done-spec =
     tie.close
@@ -38,9 +50,13 @@ silence-done-spec =
     enum-told
     enum-told-2
     go-on-requires
-    enum-known-deed
-    close-requires
+    enum-known-act
+    fault-requires
+    enum-told-3
+    end-requires
     returns
     returns-2
     same-length
-    returns-3)
+    returns-3
+    same-length-2
+    returns-4)

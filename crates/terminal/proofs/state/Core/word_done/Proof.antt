@@ -37,8 +37,14 @@ go-on-requires-2 c κs = search needs
 enum-known-deed-3 : tie.Need-enum-known-deed-3
 enum-known-deed-3 c = search needs
 
-close-requires : tie.Need-close-requires
-close-requires c κs = search needs
+kind-of-requires : tie.Need-kind-of-requires
+kind-of-requires c κs = search needs
+
+format-by-requires : tie.Need-format-by-requires
+format-by-requires c κs = search needs
+
+fault-requires : tie.Need-fault-requires
+fault-requires c κs = search needs
 
 returns-2 : tie.Need-returns-2
 returns-2 c = search (needs, word-acting) depth 9
@@ -73,7 +79,9 @@ word-done-spec =
     write-cell-requires
     go-on-requires-2
     enum-known-deed-3
-    close-requires
+    kind-of-requires
+    format-by-requires
+    fault-requires
     returns-2
     returns-3
     same-length
