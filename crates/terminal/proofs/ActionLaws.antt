@@ -1,8 +1,9 @@
 -- The laws of `specs/Actions.antt`, as the code judges and answers. Assumes nothing.
-use mathlib.Core.Path.{_≡_, refl, ap, _∙_}
+use mathlib.Core.Path.{_≡_, refl, sym, ap, _∙_}
 use mathlib.Core.Bool.{Bool, true, false, cond, not, _&&_}
 use mathlib.Core.List.{List, []}
 use Prim.Native.Nat.{ℕ, _+_}
+use native.Mathlib.Omega.{arith}
 use lib.Dec.{eqb, leb}
 use lib.ListN.{length}
 use lib.Seq.{sets}
@@ -85,7 +86,7 @@ use Rattle.terminal.specs.Actions.{
   settled,
   setupAction,
 }
-use Rattle.terminal.specs.Refusal.{setupRefusal}
+use Rattle.terminal.specs.Refusal.{setupRefusal, aloneRefusal, memoryRefusal}
 
 -- ---- what is judged
 
@@ -129,34 +130,65 @@ pub words-are-silent : (heard : Word) (old : Card) → wordStep heard old .answe
 unfolding wordStep
 words-are-silent heard old = word-met-silent (old .core .message) heard old
 
+-- ---- the number that refuses
+
+module _ (given : Terminal) (fit ordered : Bool) (number : ℕ)
+    (is-fit : fit ≡ fitTerminal given) where
+  pub unfit-refused : not fit ≡ true → 4 ≡ aloneRefusal (fitTerminal given) ordered number
+  unfit-refused unfit = rw (← is-fit, unfit)
+
+  pub disorder-refused : not fit ≡ false → not ordered ≡ true
+      → number ≡ aloneRefusal (fitTerminal given) ordered number
+  disorder-refused is-sound out = rw (← is-fit, is-sound, out)
+
+  pub none-refused : not fit ≡ false → not ordered ≡ false
+      → 0 ≡ aloneRefusal (fitTerminal given) ordered number
+  none-refused is-sound in-order = rw (← is-fit, is-sound, in-order)
+
+pub ruleset refusing = (unfit-refused, disorder-refused, none-refused)
+
 -- ---- actions over memory
+
+one-is-none : _≡_ {A = ℕ} 1 0 → ⊥
+one-is-none clash = omega arith
+
+four-is-none : _≡_ {A = ℕ} 4 0 → ⊥
+four-is-none clash = omega arith
 
 module _ (given : Terminal) (ram : List ℕ) where
   abbrev over-memory : Card
   over-memory = card (given .core) (given .queue) ram
 
-  module _ (inOrder : Bool) (number : ℕ) (event : Event) where
-    pub refused-1 : (length ram ≡ cardWords → ⊥)
-        → after 1 (replied Silent) over-memory ≡ withMemory inOrder number event over-memory
+  module _ (inOrder : Bool) (event : Event) where
+    abbrev memory-number : ℕ
+    memory-number = memoryRefusal (eqb (length ram) cardWords) (fitTerminal given) inOrder
+
+    memory-by : withMemory inOrder 8 event over-memory
+        ≡ cond (eqb memory-number 0) (took (step event over-memory))
+        (after memory-number (replied Silent) over-memory)
     unfolding withMemory
-    refused-1 other = rw (ne-eqb (length ram) cardWords other)
+    memory-by = go (eqb (length ram) cardWords) (fitTerminal given) inOrder
+      where
+        go : (one two three : Bool)
+            → cond (not one) (after 1 (replied Silent) over-memory)
+            (cond (not two) (after 4 (replied Silent) over-memory)
+            (cond (not three) (after 8 (replied Silent) over-memory)
+            (took (step event over-memory))))
+            ≡ cond (eqb (memoryRefusal one two three) 0) (took (step event over-memory))
+            (after (memoryRefusal one two three) (replied Silent) over-memory)
+        go false two three = refl
+        go true false three = refl
+        go true true false = refl
+        go true true true = refl
 
-    module _ (fit : Bool) (whole : length ram ≡ cardWords) (is-fit : fit ≡ fitTerminal given) where
-      pub refused-4 : not fit ≡ true
-          → after 4 (replied Silent) over-memory ≡ withMemory inOrder number event over-memory
-      unfolding withMemory
-      refused-4 unfit = rw (eq-eqb (length ram) cardWords whole, ← is-fit, unfit)
+    module _ (number : ℕ) (is : number ≡ memory-number) where
+      pub memory-refused : (number ≡ 0 → ⊥)
+          → after number (replied Silent) over-memory ≡ withMemory inOrder 8 event over-memory
+      memory-refused other = rw (memory-by, ← is, ne-eqb number 0 other)
 
-      pub refused-own : not fit ≡ false → inOrder ≡ false
-          → after number (replied Silent) over-memory ≡ withMemory inOrder number event over-memory
-      unfolding withMemory
-      refused-own is-sound out = rw (eq-eqb (length ram) cardWords whole, ← is-fit, is-sound, out)
-
-      pub memory-took : (new : After) → not fit ≡ false → inOrder ≡ true
-          → new ≡ took (step event over-memory) → new ≡ withMemory inOrder number event over-memory
-      unfolding withMemory
-      memory-took new is-sound order same =
-          rw (eq-eqb (length ram) cardWords whole, ← is-fit, is-sound, order) same
+      pub memory-took : (new : After) → number ≡ 0
+          → new ≡ took (step event over-memory) → new ≡ withMemory inOrder 8 event over-memory
+      memory-took new none same = rw (memory-by, ← is, eq-eqb number 0 none) same
 
   pub word-took : (marks value time : ℕ) (heard : Word) (new : Card)
       → heard ≡ wordOf marks value time → new ≡ wordStep heard over-memory .card
@@ -171,55 +203,95 @@ module _ (given : Terminal) (ram : List ℕ) where
   unfolding step
   silence-took line time new same = same
 
-  pub host-took : (address : ℕ) (words : List ℕ) (fit : Bool) (number : ℕ) (left : List ℕ)
-      → length ram ≡ cardWords → fit ≡ fitTerminal given → not fit ≡ false
-      → host.done number left ≡ host.hostWrite ram address words
-      → after number (replied Silent) (card (given .core) (given .queue) left)
+  -- the words of a host write are judged last, so what refuses before goes by no words
+  pub host-refused : (inOrder : Bool) (event : Event) (number : ℕ)
+      → number ≡ memoryRefusal (eqb (length ram) cardWords) (fitTerminal given) true
+      → (number ≡ 0 → ⊥)
+      → after number (replied Silent) over-memory ≡ withMemory inOrder 8 event over-memory
+  unfolding withMemory
+  host-refused inOrder event number is other =
+      go (eqb (length ram) cardWords) (fitTerminal given) is
+    where
+      go : (whole fit : Bool) → number ≡ memoryRefusal whole fit true
+          → after number (replied Silent) over-memory
+          ≡ cond (not whole) (after 1 (replied Silent) over-memory)
+          (cond (not fit) (after 4 (replied Silent) over-memory)
+          (cond (not inOrder) (after 8 (replied Silent) over-memory)
+          (took (step event over-memory))))
+      go false fit same = rw same
+      go true false same = rw same
+      go true true same = elim (other same) [ ]
+
+  pub host-took : (address : ℕ) (words : List ℕ) (number own : ℕ) (left : List ℕ)
+      → number ≡ memoryRefusal (eqb (length ram) cardWords) (fitTerminal given) true
+      → number ≡ 0
+      → host.done own left ≡ host.hostWrite ram address words
+      → after own (replied Silent) (card (given .core) (given .queue) left)
       ≡ withMemory
       (leb 1 (length words) && leb (length words) 64 && leb (address + length words) cardWords)
       8 (hostWrite address words) over-memory
   unfolding withMemory step hostWriteStep host.hostWrite
-  host-took address words fit number left whole is-fit is-sound is =
-      ap answered (rw (eq-eqb (length ram) cardWords whole) at is)
-      ∙ rw (eq-eqb (length ram) cardWords whole, ← is-fit, is-sound)
-      (go (leb 1 (length words) && leb (length words) 64
-      && leb (address + length words) cardWords))
+  host-took address words number own left is none is-left =
+      ap answered is-left
+      ∙ go (eqb (length ram) cardWords) (fitTerminal given)
+      (leb 1 (length words) && leb (length words) 64 && leb (address + length words) cardWords)
+      (sym is ∙ none)
     where
       answered : host.Done → After
       answered done =
           after (done .number) (replied Silent) (card (given .core) (given .queue) (done .ram))
 
-      go : (order : Bool)
-          → answered (cond order (host.done 0 (sets ram address words)) (host.done 8 ram))
-          ≡ cond (not order) (after 8 (replied Silent) over-memory)
-          (took (quietly (card (given .core) (given .queue) (sets ram address words))))
-      go true = refl
-      go false = refl
+      go : (whole fit order : Bool) → memoryRefusal whole fit true ≡ 0
+          → answered (cond whole
+          (cond order (host.done 0 (sets ram address words)) (host.done 8 ram)) (host.done 1 ram))
+          ≡ cond (not whole) (after 1 (replied Silent) over-memory)
+          (cond (not fit) (after 4 (replied Silent) over-memory)
+          (cond (not order) (after 8 (replied Silent) over-memory)
+          (took (quietly (card (given .core) (given .queue) (sets ram address words))))))
+      go false fit order none = elim (one-is-none none) [ ]
+      go true false order none = elim (four-is-none none) [ ]
+      go true true true none = refl
+      go true true false none = refl
 
 pub ruleset over-ram =
-    (refused-1, refused-4, refused-own, memory-took, word-took, silence-took, host-took)
+    (memory-refused, memory-took, word-took, silence-took, host-refused, host-took)
 
 -- ---- actions on the terminal alone
 
+module _ (given : Terminal) (inOrder : Bool) (own : ℕ) (refused : Answer) (event : Event)
+    (number : ℕ) (is : number ≡ aloneRefusal (fitTerminal given) inOrder own)
+    (own-refuses : eqb own 0 ≡ false) where
+  abbrev alone-by : (fit order : Bool) → After
+  alone-by fit order =
+      cond (not fit) (after 4 refused (alone given))
+      (cond (not order) (after own refused (alone given)) (took (step event (alone given))))
+
+  pub alone-refused : (number ≡ 0 → ⊥)
+      → after number refused (alone given)
+      ≡ withoutMemory inOrder own refused event (alone given)
+  unfolding withoutMemory
+  alone-refused other = go (fitTerminal given) inOrder is
+    where
+      go : (fit order : Bool) → number ≡ aloneRefusal fit order own
+          → after number refused (alone given) ≡ alone-by fit order
+      go false order same = rw same
+      go true false same = rw same
+      go true true same = elim (other same) [ ]
+
+  pub alone-took : (new : After) → number ≡ 0
+      → new ≡ took (step event (alone given))
+      → new ≡ withoutMemory inOrder own refused event (alone given)
+  unfolding withoutMemory
+  alone-took new none same = go (fitTerminal given) inOrder is
+    where
+      go : (fit order : Bool) → number ≡ aloneRefusal fit order own → new ≡ alone-by fit order
+      go false order by = elim (four-is-none (sym by ∙ none)) [ ]
+      go true false by =
+          ap (λ (taken : Bool). cond taken new (after own refused (alone given)))
+          (sym (ap (λ (tried : ℕ). eqb tried 0) (sym by ∙ none)) ∙ own-refuses)
+      go true true by = same
+
 module _ (given : Terminal) (fit : Bool) (is-fit : fit ≡ fitTerminal given) where
-  module _ (inOrder : Bool) (number : ℕ) (refused : Answer) (event : Event) where
-    pub alone-refused-4 : not fit ≡ true
-        → after 4 refused (alone given) ≡ withoutMemory inOrder number refused event (alone given)
-    unfolding withoutMemory
-    alone-refused-4 unfit = rw (← is-fit, unfit)
-
-    pub alone-refused-own : not fit ≡ false → inOrder ≡ false
-        → after number refused (alone given)
-        ≡ withoutMemory inOrder number refused event (alone given)
-    unfolding withoutMemory
-    alone-refused-own is-sound out = rw (← is-fit, is-sound, out)
-
-    pub alone-took : (new : After) → not fit ≡ false → inOrder ≡ true
-        → new ≡ took (step event (alone given))
-        → new ≡ withoutMemory inOrder number refused event (alone given)
-    unfolding withoutMemory
-    alone-took new is-sound order same = rw (← is-fit, is-sound, order) same
-
   pub read-refused : not fit ≡ true
       → after 4 (queueWord 0) (alone given) ≡ readQueueAction (alone given)
   unfolding readQueueAction
@@ -246,8 +318,7 @@ module _ (given : Terminal) (core : Core) where
   flags-took flags is = rw is
 
 pub ruleset on-terminal = (
-  alone-refused-4,
-  alone-refused-own,
+  alone-refused,
   alone-took,
   read-refused,
   read-took,

@@ -1,12 +1,15 @@
 // The actions of the library. Each takes the terminal and hands it back, with a refusal number, 0
 // for none; what is refused is as it was given.
 ghost use mathlib.Core.Path.{_≡_};
+ghost use lib.Dec.{eqb};
+ghost use Rattle.card.specs.Memory.{cardWords};
 ghost use Rattle.terminal.specs.declared.state.Reply.the-variants.{Silent};
 ghost use Rattle.terminal.specs.State.{card, terminalAtSetup};
 ghost use Rattle.terminal.specs.Event.{replied, queueWord};
 ghost use Rattle.terminal.specs.WordStep.{wordStep};
 ghost use Rattle.terminal.specs.SilenceStep.{silenceStep};
-ghost use Rattle.terminal.specs.Refusal.{setupRefusal};
+ghost use Rattle.terminal.specs.Fitness.{fitTerminal};
+ghost use Rattle.terminal.specs.Refusal.{setupRefusal, memoryRefusal, aloneRefusal};
 ghost use Rattle.terminal.specs.Actions.{
   after,
   took,
@@ -79,6 +82,32 @@ fn setup_refusal(station: u16, table: u16, flags: u16) -> u8
 }
 
 impl Terminal {
+    // What an action over memory refuses: 1 memory that is not the card's, 4 a state that is not
+    // fit, 8 input out of order.
+    fn memory_refusal(self, words: usize, ordered: bool) -> u8
+        ensures { λ number. ⌜ number
+            ≡ memoryRefusal (eqb words cardWords) (fitTerminal self) ordered ⌝ }
+    {
+        if words != CARD_WORDS {
+            return 1;
+        }
+        self.refusal(ordered, 8)
+    }
+
+    // What an action on the terminal alone refuses: 4 a state that is not fit, then its own number
+    // where its input is out of order.
+    fn refusal(self, ordered: bool, number: u8) -> u8
+        ensures { λ refusal. ⌜ refusal ≡ aloneRefusal (fitTerminal self) ordered number ⌝ }
+    {
+        if !self.is_fit() {
+            return 4;
+        }
+        if !ordered {
+            return number;
+        }
+        0
+    }
+
     fn take_word(self, ram: &mut [u16], word: Word) -> Terminal
         ensures { λ left. ⌜ card (left .core) (left .queue) (now (ram .exit))
             ≡ wordStep word (card (self .core) (self .queue) (now (ram .entry))) .card ⌝ }
@@ -125,23 +154,10 @@ impl Terminal {
             (card (answer .terminal .core) (answer .terminal .queue) (now (ram .exit)))
             ≡ wordAction marks value time (card (self .core) (self .queue) (now (ram .entry))) ⌝ }
     {
-        if ram.len() != CARD_WORDS {
+        let refusal = self.memory_refusal(ram.len(), marks <= 15);
+        if refusal != 0 {
             return Answered {
-                refusal: 1,
-                reply: Reply::Silent,
-                terminal: self,
-            };
-        }
-        if !self.is_fit() {
-            return Answered {
-                refusal: 4,
-                reply: Reply::Silent,
-                terminal: self,
-            };
-        }
-        if marks > 15 {
-            return Answered {
-                refusal: 8,
+                refusal: refusal,
                 reply: Reply::Silent,
                 terminal: self,
             };
@@ -160,23 +176,10 @@ impl Terminal {
             (card (answer .terminal .core) (answer .terminal .queue) (now (ram .exit)))
             ≡ silenceAction line time (card (self .core) (self .queue) (now (ram .entry))) ⌝ }
     {
-        if ram.len() != CARD_WORDS {
+        let refusal = self.memory_refusal(ram.len(), line <= 1);
+        if refusal != 0 {
             return Answered {
-                refusal: 1,
-                reply: Reply::Silent,
-                terminal: self,
-            };
-        }
-        if !self.is_fit() {
-            return Answered {
-                refusal: 4,
-                reply: Reply::Silent,
-                terminal: self,
-            };
-        }
-        if line > 1 {
-            return Answered {
-                refusal: 8,
+                refusal: refusal,
                 reply: Reply::Silent,
                 terminal: self,
             };
@@ -191,15 +194,10 @@ impl Terminal {
             ≡ hostWriteAction address (now (words .entry))
             (card (self .core) (self .queue) (now (ram .entry))) ⌝ }
     {
-        if ram.len() != CARD_WORDS {
+        let refusal = self.memory_refusal(ram.len(), true);
+        if refusal != 0 {
             return Done {
-                refusal: 1,
-                terminal: self,
-            };
-        }
-        if !self.is_fit() {
-            return Done {
-                refusal: 4,
+                refusal: refusal,
                 terminal: self,
             };
         }
@@ -238,15 +236,10 @@ impl Terminal {
         ensures { λ done. ⌜ after (done .refusal) (replied Silent) (alone (done .terminal))
             ≡ moveTableAction table (alone self) ⌝ }
     {
-        if !self.is_fit() {
+        let refusal = self.refusal(table <= 255, 3);
+        if refusal != 0 {
             return Done {
-                refusal: 4,
-                terminal: self,
-            };
-        }
-        if table > 255 {
-            return Done {
-                refusal: 3,
+                refusal: refusal,
                 terminal: self,
             };
         }
@@ -264,15 +257,10 @@ impl Terminal {
         ensures { λ done. ⌜ after (done .refusal) (replied Silent) (alone (done .terminal))
             ≡ setFlagsAction flags (alone self) ⌝ }
     {
-        if !self.is_fit() {
+        let refusal = self.refusal(flags <= 63, 8);
+        if refusal != 0 {
             return Done {
-                refusal: 4,
-                terminal: self,
-            };
-        }
-        if flags > 63 {
-            return Done {
-                refusal: 8,
+                refusal: refusal,
                 terminal: self,
             };
         }

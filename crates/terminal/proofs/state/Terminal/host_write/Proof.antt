@@ -1,20 +1,16 @@
--- `terminal::Terminal::host_write` meets its contract: a law for each answer. Assumes nothing.
+-- `terminal::Terminal::host_write` meets its contract: refused, or taken. Assumes nothing.
 use borrow.Author.Needs.{needs}
 use Rattle.terminal.specs.Actions.{hostWriteAction}
 use Rattle.terminal.proofs.ActionLaws.{over-ram}
 use Rattle.terminal.proofs.state.Terminal.host_write.Statement.{statement}
 use Rattle.terminal.proofs.state.Terminal.host_write.Tie as tie
 
+memory-refusal-requires : tie.Need-memory-refusal-requires
+memory-refusal-requires c κs = search needs
+
 returns : tie.Need-returns
 unfolding hostWriteAction
 returns c = search (needs, over-ram) depth 9
-
-is-fit-requires : tie.Need-is-fit-requires
-is-fit-requires c κs = search needs
-
-returns-2 : tie.Need-returns-2
-unfolding hostWriteAction
-returns-2 c = search (needs, over-ram) depth 9
 
 write-requires : tie.Need-write-requires
 write-requires c κs = search needs
@@ -22,10 +18,10 @@ write-requires c κs = search needs
 same-length : tie.Need-same-length
 same-length c = search needs
 
-returns-3 : tie.Need-returns-3
+returns-2 : tie.Need-returns-2
 unfolding hostWriteAction
-returns-3 c = search (needs, over-ram) depth 9
+returns-2 c = search (needs, over-ram) depth 9
 
 pub host-write-spec : {M : Type 1} → statement M
 host-write-spec =
-    tie.close (tie.spec returns is-fit-requires returns-2 write-requires same-length returns-3)
+    tie.close (tie.spec memory-refusal-requires returns write-requires same-length returns-2)
