@@ -3,15 +3,18 @@
 
 Stored are examples/ and tests/recordings/: NAME.txt, what is to be printed in NAME.lines and
 NAME.cells, and in examples/ the bytes in NAME.bin too. Each is run whole, in pieces, cut at each
-byte and with each byte damaged. What a cut or damaged one is to print comes from the peer.
+byte and with each byte damaged. What a cut or damaged one is to print comes from the peer. Then
+outputs that fail, at once or after some bytes, and inputs that do.
 """
 
 import concurrent.futures
 import os
 import re
+import resource
 import signal
 import subprocess
 import sys
+import tempfile
 
 import generate
 import programs
@@ -100,12 +103,42 @@ def closed_output(program, recording, handler):
     return None
 
 
-def closed_input(program):
-    done = subprocess.run(program, stdout=subprocess.PIPE, stderr=subprocess.PIPE, timeout=SECONDS,
-                          preexec_fn=lambda: os.close(0))
-    if done.returncode != 0 or not done.stdout.startswith(b"END 0\n") or done.stderr:
-        return f"closed input: left {done.returncode} {done.stdout!r} {done.stderr!r}"
+def full_output(program, recording, output, room):
+    """A file with room for so many bytes: those are written, and the failed write ends the run."""
+    def limit():
+        signal.signal(signal.SIGXFSZ, signal.SIG_IGN)
+        resource.setrlimit(resource.RLIMIT_FSIZE, (room, room))
+
+    with tempfile.TemporaryFile() as sink:
+        done = subprocess.run(program, input=recording, stdout=sink, stderr=subprocess.PIPE,
+                              timeout=SECONDS, preexec_fn=limit)
+        sink.seek(0)
+        written = sink.read()
+    if done.returncode != 0 or done.stderr or written != output[:room]:
+        return f"room for {room} bytes: left {done.returncode}, {len(written)} bytes {done.stderr!r}"
     return None
+
+
+def ended_input(program, **options):
+    """A read that fails is the end of the input."""
+    done = subprocess.run(program, stdout=subprocess.PIPE, stderr=subprocess.PIPE, timeout=SECONDS,
+                          **options)
+    if done.returncode != 0 or not done.stdout.startswith(b"END 0\n") or done.stderr:
+        return f"no input: left {done.returncode} {done.stdout!r} {done.stderr!r}"
+    return None
+
+
+def closed_input(program):
+    return ended_input(program, preexec_fn=lambda: os.close(0))
+
+
+def unreadable_input(program):
+    """Every read of a directory fails."""
+    folder = os.open("/", os.O_RDONLY)
+    try:
+        return ended_input(program, stdin=folder)
+    finally:
+        os.close(folder)
 
 
 def main():
@@ -130,7 +163,15 @@ def main():
     checks["closed output"] = [(closed_output, program, recording, handler)
                                for program in (RUN, CELLS) for recording in (stored[0][1], long)
                                for handler in (signal.SIG_DFL, signal.SIG_IGN)]
-    checks["closed input"] = [(closed_input, program) for program in (RUN, CELLS)]
+    # inside the lines, at the end of a write, and inside state and cells
+    checks["full output"] = [(full_output, ours, recording, output, room)
+                             for recording in (stored[0][1], long)
+                             for ours, other in ((RUN, PEER), (CELLS, PEER_CELLS))
+                             for output in (programs.run(other, recording)[1],)
+                             for room in (0, 1, 50, 65535, 65536, 65537, len(output) - 1)
+                             if room < len(output)]
+    checks["failed input"] = [(check, program) for check in (closed_input, unreadable_input)
+                              for program in (RUN, CELLS)]
     failures = 0
     with concurrent.futures.ThreadPoolExecutor(os.cpu_count()) as pool:
         for kind, calls in checks.items():
