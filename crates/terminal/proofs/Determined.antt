@@ -38,10 +38,10 @@ use Rattle.terminal.proofs.state.Core.open.Kinds as core-open-kinds
 use Rattle.terminal.proofs.state.Core.open.Reads as core-open-reads
 use Rattle.terminal.proofs.state.Core.reply.Kinds as core-reply-kinds
 use Rattle.terminal.proofs.state.Core.reply.Reads as core-reply-reads
-use Rattle.terminal.proofs.state.Core.fault.Kinds as core-fault-kinds
-use Rattle.terminal.proofs.state.Core.fault.Reads as core-fault-reads
-use Rattle.terminal.proofs.state.Core.end.Kinds as core-end-kinds
-use Rattle.terminal.proofs.state.Core.end.Reads as core-end-reads
+use Rattle.terminal.proofs.state.Core.close_by_fault.Kinds as close-by-fault-kinds
+use Rattle.terminal.proofs.state.Core.close_by_fault.Reads as close-by-fault-reads
+use Rattle.terminal.proofs.state.Core.close_at_end.Kinds as close-at-end-kinds
+use Rattle.terminal.proofs.state.Core.close_at_end.Reads as close-at-end-reads
 use Rattle.terminal.proofs.state.Core.word.Kinds as core-word-kinds
 use Rattle.terminal.proofs.state.Core.word.Reads as core-word-reads
 use Rattle.terminal.proofs.state.Core.silence.Kinds as core-silence-kinds
@@ -114,17 +114,17 @@ core-open κs arguments result result′ exit exit′ = same
 pub core-reply : Determined 0 core-reply-kinds.ps core-reply-kinds.r core-reply-reads.Post
 core-reply κs arguments result result′ exit exit′ = same
 
-pub core-fault :
-    DeterminedAs 2 core-fault-kinds.ps core-fault-kinds.r core-fault-reads.Post Card
+pub close-by-fault :
+    DeterminedAs 2 close-by-fault-kinds.ps close-by-fault-kinds.r close-by-fault-reads.Post Card
     (λ κs result exit. card (result .core)
     (queue (now (exit .1 .1 .1 .0)) (result .ring)) (now (exit .1 .1 .1 .1 .0)))
-core-fault κs arguments result result′ exit exit′ = same
+close-by-fault κs arguments result result′ exit exit′ = same
 
-pub core-end :
-    DeterminedAs 2 core-end-kinds.ps core-end-kinds.r core-end-reads.Post Card
+pub close-at-end :
+    DeterminedAs 2 close-at-end-kinds.ps close-at-end-kinds.r close-at-end-reads.Post Card
     (λ κs result exit. card (result .core)
     (queue (now (exit .1 .1 .0)) (result .ring)) (now (exit .1 .1 .1 .0)))
-core-end κs arguments result result′ exit exit′ = same
+close-at-end κs arguments result result′ exit exit′ = same
 
 pub core-word :
     DeterminedAs 2 core-word-kinds.ps core-word-kinds.r core-word-reads.Post Card

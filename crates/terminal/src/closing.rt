@@ -178,7 +178,7 @@ impl Core {
     }
 
     // A fault closes the open message silently and sets message error.
-    pub fn fault(
+    pub fn close_by_fault(
         self,
         code: u16,
         ring: Ring,
@@ -205,7 +205,7 @@ impl Core {
     }
 
     // The sound end closes the open message; codes 4 to 8 act.
-    pub fn end(
+    pub fn close_at_end(
         self,
         ring: Ring,
         places: &mut [u16; 256],

@@ -151,7 +151,7 @@ impl Core {
             WordDeed::Fault(code) => {
                 let kind = kind::kind_of(message.command);
                 let format = format::format_by(kind, message.command);
-                self.fault(code, ring, places, ram, format, word.time, message)
+                self.close_by_fault(code, ring, places, ram, format, word.time, message)
             }
         }
     }
@@ -214,8 +214,10 @@ impl Core {
                 let second = message.second;
                 self.go_on(ring, message, Stage::AwaitingStatus, second, message.taken)
             }
-            SilenceAct::Fault(code) => self.fault(code, ring, places, ram, format, time, message),
-            SilenceAct::End => self.end(ring, places, ram, format, time, message),
+            SilenceAct::Fault(code) => {
+                self.close_by_fault(code, ring, places, ram, format, time, message)
+            }
+            SilenceAct::End => self.close_at_end(ring, places, ram, format, time, message),
         }
     }
 

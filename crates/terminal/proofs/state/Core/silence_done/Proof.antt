@@ -16,14 +16,14 @@ go-on-requires c κs = search needs
 enum-known-act : tie.Need-enum-known-act
 enum-known-act c = search needs
 
-fault-requires : tie.Need-fault-requires
-fault-requires c κs = search needs
+close-by-fault-requires : tie.Need-close-by-fault-requires
+close-by-fault-requires c κs = search needs
 
 enum-told-3 : tie.Need-enum-told-3
 enum-told-3 c = search needs
 
-end-requires : tie.Need-end-requires
-end-requires c κs = search needs
+close-at-end-requires : tie.Need-close-at-end-requires
+close-at-end-requires c κs = search needs
 
 returns : tie.Need-returns
 returns c = search (needs, silence-acting) depth 9
@@ -51,9 +51,9 @@ silence-done-spec =
     enum-told-2
     go-on-requires
     enum-known-act
-    fault-requires
+    close-by-fault-requires
     enum-told-3
-    end-requires
+    close-at-end-requires
     returns
     returns-2
     same-length

@@ -43,8 +43,8 @@ kind-of-requires c κs = search needs
 format-by-requires : tie.Need-format-by-requires
 format-by-requires c κs = search needs
 
-fault-requires : tie.Need-fault-requires
-fault-requires c κs = search needs
+close-by-fault-requires : tie.Need-close-by-fault-requires
+close-by-fault-requires c κs = search needs
 
 returns-2 : tie.Need-returns-2
 returns-2 c = search (needs, word-acting) depth 9
@@ -81,7 +81,7 @@ word-done-spec =
     enum-known-deed-3
     kind-of-requires
     format-by-requires
-    fault-requires
+    close-by-fault-requires
     returns-2
     returns-3
     same-length

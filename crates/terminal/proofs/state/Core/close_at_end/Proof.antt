@@ -1,9 +1,9 @@
--- `terminal::Core::end` meets its contract: words, state word, memory, queue and core are what the
--- calls ensure. Assumes nothing.
+-- `terminal::Core::close_at_end` meets its contract: words, state word, memory, queue and core
+-- are what the calls ensure. Assumes nothing.
 use borrow.Author.Needs.{needs}
 use Rattle.terminal.proofs.ClosingLaws.{end-is}
-use Rattle.terminal.proofs.state.Core.end.Statement.{statement}
-use Rattle.terminal.proofs.state.Core.end.Tie as tie
+use Rattle.terminal.proofs.state.Core.close_at_end.Statement.{statement}
+use Rattle.terminal.proofs.state.Core.close_at_end.Tie as tie
 
 end-words-requires : tie.Need-end-words-requires
 end-words-requires c κs = search needs
@@ -29,8 +29,8 @@ same-length c = search needs
 returns : tie.Need-returns
 returns c = search (needs, end-is) depth 9
 
-pub end-spec : {M : Type 1} → statement M
-end-spec =
+pub close-at-end-spec : {M : Type 1} → statement M
+close-at-end-spec =
     tie.close
     (tie.spec
     end-words-requires

@@ -1,9 +1,9 @@
--- `terminal::Core::fault` meets its contract: words, state word, memory, queue and core are what
--- the calls ensure. Assumes nothing.
+-- `terminal::Core::close_by_fault` meets its contract: words, state word, memory, queue and core
+-- are what the calls ensure. Assumes nothing.
 use borrow.Author.Needs.{needs}
 use Rattle.terminal.proofs.ClosingLaws.{fault-is}
-use Rattle.terminal.proofs.state.Core.fault.Statement.{statement}
-use Rattle.terminal.proofs.state.Core.fault.Tie as tie
+use Rattle.terminal.proofs.state.Core.close_by_fault.Statement.{statement}
+use Rattle.terminal.proofs.state.Core.close_by_fault.Tie as tie
 
 unless-busy-requires : tie.Need-unless-busy-requires
 unless-busy-requires c κs = search needs
@@ -32,8 +32,8 @@ same-length c = search needs
 returns : tie.Need-returns
 returns c = search (needs, fault-is) depth 9
 
-pub fault-spec : {M : Type 1} → statement M
-fault-spec =
+pub close-by-fault-spec : {M : Type 1} → statement M
+close-by-fault-spec =
     tie.close
     (tie.spec
     unless-busy-requires
