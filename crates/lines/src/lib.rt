@@ -192,7 +192,8 @@ fn put_text(out: &mut [u8], at: usize, bytes: &[u8]) -> usize
 
 // ---- hex
 
-// The digit of a number below 16: `0` to `9`, `A` to `F`.
+// The digit of a number below 16: `0` to `9`, `A` to `F`. It is picked, not worked out, so that the
+// compiler makes a table of it.
 fn hex_digit(number: u16) -> u8
     requires { ⌜ number < 16 ⌝ }
     ensures { λ digit. ⌜ digit ≡ hexDigit number ⌝ }
@@ -250,7 +251,7 @@ fn put_word(out: &mut [u8], at: usize, word: u16) -> usize
     put_hex_word(out, first, word)
 }
 
-// Each word after a blank.
+// Each word after a blank. A status or a queue word is a row of one: words are written here alone.
 fn put_words(out: &mut [u8], at: usize, words: &[u16]) -> usize
     requires { ⌜ at + 5 * length (now words) ≤ length (now out) ⌝ }
     ensures { λ next. ⌜ Wrote (now (out .entry)) at (eachWord (now (words .entry)))
