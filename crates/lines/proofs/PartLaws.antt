@@ -9,6 +9,7 @@ use native.Mathlib.Omega.{arith}
 use lib.ListN.{length, set, length-set, length-append}
 use lib.Seq.{sets}
 use borrow.Author.Tests.{lt-ltb, le-ltb}
+use Rattle.rules.proofs.LastArm.{NoneBelow, none-below}
 use Rattle.lines.specs.Digits.{hexDigit, hexByte, hexWord, decimalBy}
 use Rattle.lines.specs.Lines.{blank}
 use Rattle.lines.specs.Written.{Put, stored, Wrote}
@@ -78,18 +79,6 @@ module _ {out : List ℕ} {at : ℕ} {text after : List ℕ} {next : ℕ}
 pub digit-of : (number known digit : ℕ)
     → number ≡ known → digit ≡ hexDigit known → digit ≡ hexDigit number
 digit-of number known digit is same = rw is same
-
--- no number below a bound is this one
-abbrev pub NoneBelow : ℕ → ℕ → Type 0
-NoneBelow number zero = Unit
-NoneBelow number (suc bound) = NoneBelow number bound × (number ≡ bound → ⊥)
-
-none-below : (number bound : ℕ) → NoneBelow number bound → bound ≤ number
-none-below number zero none = omega arith
-none-below number (suc bound) none =
-    let so-far : bound ≤ number = none-below number bound (none .0) in
-    let other : number ≡ bound → ⊥ = none .1 in
-    omega arith
 
 pub digit-last : (number digit : ℕ)
     → number < 16 → NoneBelow number 15 → digit ≡ hexDigit 15 → digit ≡ hexDigit number

@@ -4,8 +4,10 @@
 --     LentPart      what a store to a lent part is to the whole
 --     Determined    what it means that a contract allows one outcome alone
 --     Tabulated     a table whose rule is computed once
+--     LastArm       what the last arm of a `match` on a number knows
 pub mod Cases
 pub mod Halves
 pub mod LentPart
 pub mod Determined
 pub mod Tabulated
+pub mod LastArm

@@ -2,7 +2,7 @@
 use mathlib.Core.Path.{_≡_, refl, sym, ap, _∙_}
 use mathlib.Core.Bool.{Bool, true, false, cond, not, _&&_}
 use mathlib.Core.List.{List, []}
-use Prim.Native.Nat.{ℕ, _+_}
+use Prim.Native.Nat.{ℕ, suc, _+_}
 use native.Mathlib.Omega.{arith}
 use lib.Dec.{eqb, leb}
 use lib.ListN.{length}
@@ -149,11 +149,8 @@ pub ruleset refusing = (unfit-refused, disorder-refused, none-refused)
 
 -- ---- actions over memory
 
-one-is-none : _≡_ {A = ℕ} 1 0 → ⊥
-one-is-none clash = omega arith
-
-four-is-none : _≡_ {A = ℕ} 4 0 → ⊥
-four-is-none clash = omega arith
+some-is-none : (less : ℕ) → _≡_ {A = ℕ} (suc less) 0 → ⊥
+some-is-none less clash = omega arith
 
 module _ (given : Terminal) (ram : List ℕ) where
   abbrev over-memory : Card
@@ -248,8 +245,8 @@ module _ (given : Terminal) (ram : List ℕ) where
           (cond (not fit) (after 4 (replied Silent) over-memory)
           (cond (not order) (after 8 (replied Silent) over-memory)
           (took (quietly (card (given .core) (given .queue) (sets ram address words))))))
-      go false fit order none = elim (one-is-none none) [ ]
-      go true false order none = elim (four-is-none none) [ ]
+      go false fit order none = elim (some-is-none 0 none) [ ]
+      go true false order none = elim (some-is-none 3 none) [ ]
       go true true true none = refl
       go true true false none = refl
 
@@ -285,7 +282,7 @@ module _ (given : Terminal) (inOrder : Bool) (own : ℕ) (refused : Answer) (eve
   alone-took new none same = go (fitTerminal given) inOrder is
     where
       go : (fit order : Bool) → number ≡ aloneRefusal fit order own → new ≡ alone-by fit order
-      go false order by = elim (four-is-none (sym by ∙ none)) [ ]
+      go false order by = elim (some-is-none 3 (sym by ∙ none)) [ ]
       go true false by =
           ap (λ (taken : Bool). cond taken new (after own refused (alone given)))
           (sym (ap (λ (tried : ℕ). eqb tried 0) (sym by ∙ none)) ∙ own-refuses)
