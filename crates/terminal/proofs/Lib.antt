@@ -9,6 +9,7 @@
 --     FitWord       a word keeps the card fit, whatever it decides
 --     FitSilence    a silence keeps the card fit
 --     FitLaws       a fit state stays fit: setup, one event, and a run
+--     NoTerminal    what a refused setup returns is refused by every action
 --     OneBlock      one broken message costs one block
 --     Determined    each public contract allows one outcome alone
 pub mod OpeningLaws
@@ -21,5 +22,6 @@ pub mod FitChanges
 pub mod FitWord
 pub mod FitSilence
 pub mod FitLaws
+pub mod NoTerminal
 pub mod OneBlock
 pub mod Determined
