@@ -3,6 +3,7 @@
 --     State          what is held, a setter for each field, setup
 --     Opening        what an opening does
 --     Closing        closing, faults, and the sound end
+--     Reply          what a reply puts on the bus: status, then words
 --     Event          what happens to the terminal, and what comes of it
 --     WordStep       what rules 1 to 8 decide is done
 --     SilenceStep    what silence decides is done
@@ -15,6 +16,7 @@
 pub mod State
 pub mod Opening
 pub mod Closing
+pub mod Reply
 pub mod Event
 pub mod WordStep
 pub mod SilenceStep

@@ -6,13 +6,12 @@ use Prim.Native.Nat.{ℕ, zero, suc, _+_, _%_, _^_}
 use lib.Dec.{eqb}
 use lib.ListN.{length, drop, replicate}
 use Rattle.card.specs.Memory.{cardWords}
-use Rattle.card.specs.Sent.{sentPart}
 use Rattle.queue.specs.Queue.{emptyQueue}
 use Rattle.terminal.specs.declared.state.Reply.{Reply}
-use Rattle.terminal.specs.declared.state.Reply.the-variants.{Silent, Status, Words, Last}
 use Rattle.terminal.specs.declared.state.Answer.{Answer}
 use Rattle.terminal.specs.declared.state.Answer.the-variants.{Replied, QueueWord}
 use Rattle.terminal.specs.State.{Card, card, coreAtSetup}
+use Rattle.terminal.specs.Reply.{replyWords}
 use Rattle.terminal.specs.Event.{Shown}
 use Rattle.recording.specs.declared.Field.{Field}
 use Rattle.recording.specs.declared.Reading.{Reading}
@@ -50,12 +49,14 @@ counted number = number % 2 ^ 64
 
 -- ---- lines
 
--- what is printed of a reply: nothing of silence; else its status and the words sent
+-- the line of a reply's values: nothing of none; else of the status and the words sent
+abbrev pub valuesLine : List ℕ → List ℕ
+valuesLine [] = []
+valuesLine (status ∷ words) = statusLine status words
+
+-- what is printed of a reply
 abbrev pub replyLine : List ℕ → Reply → List ℕ
-replyLine ram Silent = []
-replyLine ram (Status status) = statusLine status []
-replyLine ram (Words status block count) = statusLine status (sentPart ram block count)
-replyLine ram (Last status command) = statusLine status (command ∷ [])
+replyLine ram reply = valuesLine (replyWords ram reply)
 
 abbrev pub answerLine : List ℕ → Answer → List ℕ
 answerLine ram (Replied reply) = replyLine ram reply
