@@ -11,6 +11,8 @@
 --     FitLaws       a fit state stays fit: setup, one event, and a run
 --     NoTerminal    what a refused setup returns is refused by every action
 --     OneBlock      one broken message costs one block
+--     StepFrame     what an event leaves alone: every cell that it may not write
+--     ReplyLaws     the words that a reply sends are those in memory at the silence
 --     Determined    each public contract allows one outcome alone
 pub mod OpeningLaws
 pub mod ClosingLaws
@@ -24,4 +26,6 @@ pub mod FitSilence
 pub mod FitLaws
 pub mod NoTerminal
 pub mod OneBlock
+pub mod StepFrame
+pub mod ReplyLaws
 pub mod Determined

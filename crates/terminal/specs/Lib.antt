@@ -9,6 +9,8 @@
 --     SilenceStep    what silence decides is done
 --     Deed           acts that do alike, in one, as the code does them
 --     Machine        one step for each event, and a run
+--     Closes         which events close the open message
+--     Written        which cells an event may write
 --     OneBlock       one broken message costs one block: what that says of two runs
 --     Fitness        refusal 4: which states are fit
 --     Refusal        which number refuses, told first, as the code does it
@@ -22,6 +24,8 @@ pub mod WordStep
 pub mod SilenceStep
 pub mod Deed
 pub mod Machine
+pub mod Closes
+pub mod Written
 pub mod OneBlock
 pub mod Fitness
 pub mod Refusal

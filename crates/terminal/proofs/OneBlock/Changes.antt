@@ -83,7 +83,7 @@ both-closed {Spent} {ram} {other} format state time message agree = go (format .
     go false = agree
 
 -- every kind of command has its chain's word in a cell of the table
-cell-in-table : (kind : Kind) (command : ℕ) → formatBy kind command .cell < blockCells
+pub cell-in-table : (kind : Kind) (command : ℕ) → formatBy kind command .cell < blockCells
 unfolding formatBy
 cell-in-table Receive command = omega arith
 cell-in-table Transmit command = omega arith
