@@ -13,6 +13,7 @@
 --     OneBlock      one broken message costs one block
 --     StepFrame     what an event leaves alone: every cell that it may not write
 --     ReplyLaws     the words that a reply sends are those in memory at the silence
+--     ChainLaws     a closing takes its chain on, and the next opening takes the block named
 --     Determined    each public contract allows one outcome alone
 pub mod OpeningLaws
 pub mod ClosingLaws
@@ -28,4 +29,5 @@ pub mod NoTerminal
 pub mod OneBlock
 pub mod StepFrame
 pub mod ReplyLaws
+pub mod ChainLaws
 pub mod Determined

@@ -11,6 +11,7 @@
 --     Machine        one step for each event, and a run
 --     Closes         which events close the open message
 --     Written        which cells an event may write
+--     Chain          the chain rule: what a closing leaves, and what the next opening takes
 --     OneBlock       one broken message costs one block: what that says of two runs
 --     Fitness        refusal 4: which states are fit
 --     Refusal        which number refuses, told first, as the code does it
@@ -26,6 +27,7 @@ pub mod Deed
 pub mod Machine
 pub mod Closes
 pub mod Written
+pub mod Chain
 pub mod OneBlock
 pub mod Fitness
 pub mod Refusal
