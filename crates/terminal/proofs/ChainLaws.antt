@@ -1,5 +1,6 @@
 -- The chain rule of the terminal, for memory of any length:
 --     chain-moves-on        a closing puts the link of its block into the opening's table cell
+--     moved-chain-stays     .. unless the host has set the table block since
 --     superseding-takes     .. and where a command supersedes, its message takes the block named
 --     next-opening-takes    .. and so does the next opening by that cell, whatever comes between
 -- Assumes nothing.
@@ -7,14 +8,13 @@ use mathlib.Core.Path.{_≡_, refl, ap, subst, _∙_}
 use mathlib.Core.Logic.{_≢_}
 use mathlib.Core.Bool.{Bool, true, false, cond}
 use mathlib.Core.List.{List, [], _∷_, _++_}
-use Prim.Native.Nat.{ℕ, _<_}
+use Prim.Native.Nat.{ℕ, _≤_, _<_}
 use native.Mathlib.Omega.{arith}
 use lib.ListN.{length, getD}
 use Rattle.bus.specs.Kind.{kindOf}
 use Rattle.card.specs.Memory.{blockCells, wordAddress, cellAt, withService}
-use Rattle.card.specs.TableWord.{blockOf}
 use Rattle.card.specs.Time.{ticksOf}
-use Rattle.card.proofs.Frame.{InCells, service-keeps, link-moves}
+use Rattle.card.proofs.Frame.{service-keeps, link-moves}
 use Rattle.message.specs.declared.format.Format.{Format}
 use Rattle.message.specs.declared.judge.WordAct.{WordAct}
 use Rattle.message.specs.declared.judge.WordAct.the-variants.{
@@ -33,7 +33,7 @@ use Rattle.message.specs.declared.state.Message.the-variants.{Idle, Open}
 use Rattle.message.specs.declared.state.Word.{Word}
 use Rattle.message.specs.Format.{formatOf}
 use Rattle.message.specs.Words.{ownCommand}
-use Rattle.terminal.specs.State.{Card, withStatus, withLast, withMessage}
+use Rattle.terminal.specs.State.{Card, withStatus, withMessage}
 use Rattle.terminal.specs.Opening.{openedMessage, openedCore, opening}
 use Rattle.terminal.specs.Closing.{closedRam, closing, faulted, ended}
 use Rattle.terminal.specs.Event.{Event, word, none, Outcome, opens, quietly}
@@ -64,60 +64,93 @@ use Rattle.terminal.proofs.StepFrame.{word-step, silence-step, step-wri
 
 -- ---- a closing
 
--- cells 58 to 61, then cell 63 into the table cell: the link is the one that stood there before
-closed-links : (format : Format) (state time : ℕ) (message : OpenMessage) (ram : List ℕ)
-    → format .block ≡ true → message .moved ≡ false → format .cell < blockCells
-    → wordAddress (message .home) (format .cell) < length ram
-    → cellAt (closedRam format state time message ram) (message .home) (format .cell)
-    ≡ cellAt ram (message .block) 63
-unfolding closedRam cellAt
-closed-links format state time message ram has stays inside in-memory =
-    let ticks = ticksOf (message .opened) time in
-    let served = withService ram (message .block) state time ticks in
-    let keeps = service-keeps (message .block) state time ticks in
-    rw (has, stays)
-    (link-moves served (message .block) (message .home) (format .cell) inside
-    (omega (arith, keeps .same-length ram))
-    ∙ keeps .same-else ram (wordAddress (message .block) 63) (λ written. omega arith))
+-- whatever closes the message leaves memory as `closedRam` has it
+record ClosedRam (old : Card) (message : OpenMessage) (new : List ℕ) : Type 0 where
+  state : ℕ
+  time : ℕ
+  is : new ≡ closedRam (formatOf (message .command)) state time message (old .ram)
 
-module _ (old : Card) (message : OpenMessage) (with-block : OpenWithBlock old message)
-    (stays : message .moved ≡ false) (in-memory : tableAddress message < length (old .ram)) where
-  link-after : (state time : ℕ)
-      → cellAt (closedRam (formatOf (message .command)) state time message (old .ram))
-      (message .home) (formatOf (message .command) .cell)
-      ≡ linkOf message old
-  link-after state time =
-      closed-links (formatOf (message .command)) state time message (old .ram)
-      (with-block .has-block) stays (cell-in-table (kindOf (message .command)) (message .command))
-      in-memory
+module _ (old : Card) (message : OpenMessage) (is-open : old .core .message ≡ Open message) where
+  closed-by : {new : List ℕ} (state time : ℕ)
+      → new ≡ closedRam (formatOf (message .command)) state time message (old .ram)
+      → ClosedRam old message new
+  closed-by state time is = record { state = state; time = time; is = is }
 
-  closed-chain : {event : Event} → Closes old message event
-      → tableWordOf message (step event old .card) ≡ linkOf message old
+  closed-ram : {event : Event} → Closes old message event
+      → ClosedRam old message (step event old .card .ram)
   unfolding wordDone silenceDone faulted ended closing opening
-  closed-chain (by-fault {heard = heard} judged) =
-      ap (λ (outcome : Outcome). tableWordOf message (outcome .card))
-      (word-step old message (with-block .is-open) heard judged)
-      ∙ link-after _ (heard .time)
-  closed-chain (by-superseding {heard = heard} judged) =
-      ap (λ (outcome : Outcome). tableWordOf message (outcome .card))
-      (word-step old message (with-block .is-open) heard judged)
-      ∙ link-after _ (heard .time)
-  closed-chain (by-silence {line = line} {time = time} judged) =
-      ap (λ (outcome : Outcome). tableWordOf message (outcome .card))
-      (silence-step old message (with-block .is-open) line time judged)
-      ∙ link-after _ time
-  closed-chain (by-sound-end {line = line} {time = time} judged) =
-      ap (λ (outcome : Outcome). tableWordOf message (outcome .card))
-      (silence-step old message (with-block .is-open) line time judged)
-      ∙ link-after _ time
+  closed-ram (by-fault {heard = heard} judged) =
+      closed-by _ (heard .time)
+      (ap (λ (outcome : Outcome). outcome .card .ram) (word-step old message is-open heard judged))
+  closed-ram (by-superseding {heard = heard} judged) =
+      closed-by _ (heard .time)
+      (ap (λ (outcome : Outcome). outcome .card .ram) (word-step old message is-open heard judged))
+  closed-ram (by-silence {line = line} {time = time} judged) =
+      closed-by _ time
+      (ap (λ (outcome : Outcome). outcome .card .ram)
+      (silence-step old message is-open line time judged))
+  closed-ram (by-sound-end {line = line} {time = time} judged) =
+      closed-by _ time
+      (ap (λ (outcome : Outcome). outcome .card .ram)
+      (silence-step old message is-open line time judged))
 
--- the closing puts cell 63 of its block, whole, into the opening's table cell
+module _ (format : Format) (state time : ℕ) (message : OpenMessage) (ram : List ℕ)
+    (has : format .block ≡ true) where
+  -- cells 58 to 61, then cell 63 into the table cell: the link is the one that stood there before
+  link-after-closing : message .moved ≡ false → format .cell < blockCells
+      → wordAddress (message .home) (format .cell) < length ram
+      → cellAt (closedRam format state time message ram) (message .home) (format .cell)
+      ≡ cellAt ram (message .block) 63
+  unfolding closedRam cellAt
+  link-after-closing stays inside in-memory =
+      let ticks = ticksOf (message .opened) time in
+      let served = withService ram (message .block) state time ticks in
+      let keeps = service-keeps (message .block) state time ticks in
+      rw (has, stays)
+      (link-moves served (message .block) (message .home) (format .cell) inside
+      (omega (arith, keeps .same-length ram))
+      ∙ keeps .same-else ram (wordAddress (message .block) 63) (λ written. omega arith))
+
+  -- cells 58 to 61 alone
+  entry-after-a-move : message .moved ≡ true
+      → ((cell : ℕ) → 58 ≤ cell → cell ≤ 61
+      → wordAddress (message .home) (format .cell) ≢ wordAddress (message .block) cell)
+      → cellAt (closedRam format state time message ram) (message .home) (format .cell)
+      ≡ cellAt ram (message .home) (format .cell)
+  unfolding closedRam cellAt
+  entry-after-a-move moved apart =
+      rw (has, moved)
+      (service-keeps (message .block) state time (ticksOf (message .opened) time) .same-else ram
+      (wordAddress (message .home) (format .cell))
+      (λ written. apart (written .cell) (written .from) (written .to) (written .is)))
+
+-- the closing puts cell 63 of its block, whole, into the opening's table cell ..
 pub chain-moves-on : (old : Card) (message : OpenMessage) (event : Event)
     → ChainCloses old message event
     → tableWordOf message (step event old .card) ≡ linkOf message old
 chain-moves-on old message event asked =
-    closed-chain old message (asked .with-block) (asked .table-stays) (asked .in-memory)
-    (asked .closes)
+    let closed = closed-ram old message (asked .with-block .is-open) (asked .closes) in
+    ap
+    (λ (ram : List ℕ). cellAt ram (message .home) (formatOf (message .command) .cell))
+    (closed .is)
+    ∙ link-after-closing (formatOf (message .command)) (closed .state) (closed .time) message
+    (old .ram) (asked .with-block .has-block) (asked .table-stays)
+    (cell-in-table (kindOf (message .command)) (message .command)) (asked .in-memory)
+
+-- .. unless the host has set the table block since: the table cell stays as it was, where it is none
+-- of the cells 58 to 61 of the message's block
+pub moved-chain-stays : (old : Card) (message : OpenMessage) (event : Event)
+    → OpenWithBlock old message → Closes old message event → message .moved ≡ true
+    → ((cell : ℕ) → 58 ≤ cell → cell ≤ 61
+    → tableAddress message ≢ wordAddress (message .block) cell)
+    → tableWordOf message (step event old .card) ≡ tableWordOf message old
+moved-chain-stays old message event with-block closes moved apart =
+    let closed = closed-ram old message (with-block .is-open) closes in
+    ap
+    (λ (ram : List ℕ). cellAt ram (message .home) (formatOf (message .command) .cell))
+    (closed .is)
+    ∙ entry-after-a-move (formatOf (message .command)) (closed .state) (closed .time) message
+    (old .ram) (with-block .has-block) moved apart
 
 -- ---- an opening
 

@@ -11,7 +11,9 @@
 --     FitLaws       a fit state stays fit: setup, one event, and a run
 --     NoTerminal    what a refused setup returns is refused by every action
 --     OneBlock      one broken message costs one block
+--     StoreLaws     where rule 8 stores a word
 --     StepFrame     what an event leaves alone: every cell that it may not write
+--     OtherCells    .. and so the other cells of a message's block, and other blocks
 --     ReplyLaws     the words that a reply sends are those in memory at the silence
 --     ChainLaws     a closing takes its chain on, and the next opening takes the block named
 --     Determined    each public contract allows one outcome alone
@@ -27,7 +29,9 @@ pub mod FitSilence
 pub mod FitLaws
 pub mod NoTerminal
 pub mod OneBlock
+pub mod StoreLaws
 pub mod StepFrame
+pub mod OtherCells
 pub mod ReplyLaws
 pub mod ChainLaws
 pub mod Determined

@@ -3,33 +3,16 @@
 --     step-writes-only    the law
 --     word-step, silence-step    a step by what the word or the silence was judged
 -- Assumes nothing.
-use mathlib.Core.Path.{_≡_, refl, sym, ap, subst, _∙_}
-use mathlib.Core.Bool.{Bool, true, false, cond, _&&_}
+use mathlib.Core.Path.{_≡_, refl, ap, _∙_}
+use mathlib.Core.Bool.{Bool, true, false, cond}
 use mathlib.Core.List.{List}
-use Prim.Native.Nat.{ℕ, _≤_, _<_}
-use native.Mathlib.Omega.{arith}
-use lib.Dec.{leb}
-use borrow.Author.Tests.{leb-false}
-use Rattle.bus.specs.declared.kind.Kind.{Kind}
-use Rattle.bus.specs.declared.kind.Kind.the-variants.{
-  Receive,
-  Transmit,
-  ModeStatus,
-  ModeLast,
-  ModeSwitch,
-  ModeSend,
-  ModeTake,
-  ModeReply,
-  Illegal,
-}
-use Rattle.bus.specs.Kind.{kindOf}
+use Prim.Native.Nat.{ℕ, _≤_}
 use Rattle.card.specs.Memory.{wordAddress, withService}
 use Rattle.card.specs.Time.{ticksOf}
 use Rattle.card.proofs.Frame.{
   Keeps,
   keeps-then,
   keeps-to-more,
-  InCells,
   cell-keeps,
   service-keeps,
   link-keeps,
@@ -49,26 +32,12 @@ use Rattle.message.specs.declared.judge.WordAct.the-variants.{
 }
 use Rattle.message.specs.declared.judge.SilenceAct.{SilenceAct}
 use Rattle.message.specs.declared.judge.SilenceAct.the-variants as silence-acts
-use Rattle.message.specs.declared.state.Stage.{Stage}
-use Rattle.message.specs.declared.state.Stage.the-variants.{
-  Data,
-  SecondCommand,
-  AwaitingStatus,
-  Skipping,
-}
 use Rattle.message.specs.declared.state.OpenMessage.{OpenMessage}
 use Rattle.message.specs.declared.state.Message.{Message}
 use Rattle.message.specs.declared.state.Message.the-variants.{Idle, Open}
 use Rattle.message.specs.declared.state.Word.{Word}
-use Rattle.message.specs.Format.{formatBy, formatOf}
-use Rattle.message.specs.Words.{
-  ownCommand,
-  inData,
-  inSecondCommand,
-  inAwaitingStatus,
-  wordInStage,
-  onWord,
-}
+use Rattle.message.specs.Format.{formatOf}
+use Rattle.message.specs.Words.{ownCommand}
 use Rattle.terminal.specs.State.{Card}
 use Rattle.terminal.specs.Opening.{opening}
 use Rattle.terminal.specs.Closing.{linked, closedRam, closing, faulted, ended}
@@ -103,7 +72,6 @@ use Rattle.terminal.specs.Closes.{
   by-sound-end,
 }
 use Rattle.terminal.specs.Written.{
-  Stores,
   MayWrite,
   data-cell,
   service-cell,
@@ -111,7 +79,7 @@ use Rattle.terminal.specs.Written.{
   host-cell,
   WritesOnly,
 }
-use Rattle.terminal.proofs.OneBlock.Answers.{words-at-most}
+use Rattle.terminal.proofs.StoreLaws.{stores-with-block, stores-data}
 
 -- ---- a step, by what was judged
 
@@ -132,79 +100,6 @@ module _ (old : Card) (message : OpenMessage) (is-open : old .core .message ≡ 
       ap (λ (there : Message). silenceMet there line time old) is-open
       ∙ ap (λ (act : SilenceAct). silenceDone act (formatOf (message .command)) message time old)
       judged
-
--- ---- where a word is stored
-
--- acts, with what holds where one stores
-data Told (format : Format) (message : OpenMessage) : WordAct → Type 0 where
-  ignores : Told format message Ignore
-  stores : {next : ℕ} → leb (format .takes) (message .taken) ≡ false
-      → (message .busy && format .yields) ≡ false → Told format message (Store next)
-  checks : {next : ℕ} → Told format message (Check next)
-  takes-second : {value : ℕ} → Told format message (TakeSecond value)
-  takes-status : Told format message TakeStatus
-  faults : {code : ℕ} → Told format message (Fault code)
-  supersedes : Told format message Supersede
-  drops : Told format message Drop
-
-told-if : {format : Format} {message : OpenMessage} {test : Bool} {act other : WordAct}
-    → (test ≡ true → Told format message act) → (test ≡ false → Told format message other)
-    → Told format message (cond test act other)
-told-if {test = true} holds fails = holds refl
-told-if {test = false} holds fails = fails refl
-
-ruleset telling = (
-  ignores,
-  checks,
-  takes-second,
-  takes-status,
-  faults,
-  supersedes,
-  drops,
-  told-if,
-)
-
-module _ (format : Format) (message : OpenMessage) (heard : Word) where
-  told-in-stage : (stage : Stage) (station : ℕ)
-      → Told format message (wordInStage stage station format message heard)
-  unfolding inData inSecondCommand inAwaitingStatus
-  told-in-stage Data station = search (telling, stores) depth 14
-  told-in-stage SecondCommand station = search telling depth 12
-  told-in-stage AwaitingStatus station = search telling depth 12
-  told-in-stage Skipping station = ignores
-
-  told-word : (station flags : ℕ)
-      → Told format message (onWord station flags format message heard)
-  unfolding onWord
-  told-word station flags =
-      let in-stage = told-in-stage (message .stage) station in
-      search telling depth 12
-
--- what takes words has a block, and takes 32 at the most
-takes-with-block : (kind : Kind) (command taken : ℕ) → taken < formatBy kind command .takes
-    → formatBy kind command .block ≡ true
-unfolding formatBy
-takes-with-block Receive command taken wanted = refl
-takes-with-block Transmit command taken wanted = refl
-takes-with-block ModeStatus command taken wanted = absurd (omega arith)
-takes-with-block ModeLast command taken wanted = absurd (omega arith)
-takes-with-block ModeSwitch command taken wanted = absurd (omega arith)
-takes-with-block ModeSend command taken wanted = refl
-takes-with-block ModeTake command taken wanted = refl
-takes-with-block ModeReply command taken wanted = refl
-takes-with-block Illegal command taken wanted = absurd (omega arith)
-
-takes-at-most : (kind : Kind) (command : ℕ) → formatBy kind command .takes ≤ 32
-unfolding formatBy
-takes-at-most Receive command = words-at-most command
-takes-at-most Transmit command = omega arith
-takes-at-most ModeStatus command = omega arith
-takes-at-most ModeLast command = omega arith
-takes-at-most ModeSwitch command = omega arith
-takes-at-most ModeSend command = omega arith
-takes-at-most ModeTake command = omega arith
-takes-at-most ModeReply command = omega arith
-takes-at-most Illegal command = omega arith
 
 -- ---- changes of memory
 
@@ -280,26 +175,8 @@ module _ (old : Card) (message : OpenMessage) (is-open : old .core .message ≡ 
       → (address : ℕ) → address ≡ wordAddress (message .block) (message .taken)
       → MayWrite old (word heard) address
   stored-writes heard next judged address is =
-      go (subst (Told format message) judged
-      (told-word format message heard (old .core .station) (old .core .flags)))
-    where
-      format : Format
-      format = formatOf (message .command)
-
-      go : Told format message (Store next) → MayWrite old (word heard) address
-      go (stores wanted free) =
-          let kind : Kind = kindOf (message .command) in
-          let more : message .taken < format .takes =
-          omega (arith, leb-false (format .takes) (message .taken) wanted) in
-          data-cell
-          (with-block (takes-with-block kind (message .command) (message .taken) more))
-          (record {
-            next = next;
-            by-rule-8 = judged;
-            data-cell = omega (arith, takes-at-most kind (message .command));
-            not-busy-data = free;
-          })
-          is
+      data-cell (with-block (stores-with-block old message heard next judged))
+      (stores-data old message heard next judged) is
 
   word-done-writes : (act : WordAct) (heard : Word) → wordJudged old message heard ≡ act
       → WritesOnly (MayWrite old (word heard)) (old .ram)

@@ -2,17 +2,17 @@
 -- terminal never writes other cells of a message's block, save the table cell where that block is
 -- the table. Definitions only; proved in `proofs/StepFrame`. Assumes nothing.
 use mathlib.Core.Path.{_≡_}
-use mathlib.Core.Bool.{false, _&&_}
+use mathlib.Core.Bool.{Bool, false, _&&_}
 use mathlib.Core.List.{List}
 use Prim.Native.Nat.{ℕ, _+_, _≤_, _<_}
 use lib.ListN.{length, getD}
-use Rattle.card.specs.Memory.{wordAddress}
+use Rattle.card.specs.Memory.{blockCells, wordAddress}
 use Rattle.message.specs.declared.judge.WordAct.the-variants.{Store}
 use Rattle.message.specs.declared.state.OpenMessage.{OpenMessage}
 use Rattle.message.specs.declared.state.Word.{Word}
 use Rattle.message.specs.Format.{formatOf}
 use Rattle.terminal.specs.State.{Card}
-use Rattle.terminal.specs.Event.{Event, word, hostWrite}
+use Rattle.terminal.specs.Event.{Event, word, silence, hostWrite}
 use Rattle.terminal.specs.Closes.{OpenWithBlock, wordJudged, Closes}
 
 -- rule 8 stores the word in the next cell, which is a data cell; under busy data nothing is stored
@@ -50,3 +50,16 @@ pub record WritesOnly (Written : ℕ → Type 0) (ram new : List ℕ) : Type 0 w
   pub same-length : length new ≡ length ram
   pub same-else : (address : ℕ) → (Written address → ⊥)
       → getD new address 0 ≡ getD ram address 0
+
+-- ---- in document 01's words
+
+-- the bus: words and silences
+pub data OnBus : Event → Type 0 where
+  a-word : {heard : Word} → OnBus (word heard)
+  a-silence : {line : Bool} {time : ℕ} → OnBus (silence line time)
+
+-- a block's other cells, 32 to 57, 62 and the link: neither data nor service cells
+pub record OtherCell (cell : ℕ) : Type 0 where
+  pub no-data-cell : 32 ≤ cell
+  pub no-service-cell : 58 ≤ cell → cell ≤ 61 → ⊥
+  pub in-block : cell < blockCells
