@@ -48,9 +48,9 @@ use Rattle.terminal.specs.Closes.{
   by-silence,
   by-sound-end,
 }
+use Rattle.terminal.specs.Written.{tableAddress}
 use Rattle.terminal.specs.Chain.{
   linkOf,
-  tableAddress,
   tableWordOf,
   ChainCloses,
   OpensBy,

@@ -7,7 +7,7 @@ use mathlib.Core.Bool.{true, false}
 use mathlib.Core.List.{List, [], _∷_, _++_}
 use Prim.Native.Nat.{ℕ, _<_}
 use lib.ListN.{length}
-use Rattle.card.specs.Memory.{wordAddress, cellAt}
+use Rattle.card.specs.Memory.{cellAt}
 use Rattle.card.specs.TableWord.{blockOf}
 use Rattle.message.specs.declared.state.OpenMessage.{OpenMessage}
 use Rattle.message.specs.declared.state.Message.{Message}
@@ -18,17 +18,13 @@ use Rattle.terminal.specs.State.{Card}
 use Rattle.terminal.specs.Event.{Event, word, none}
 use Rattle.terminal.specs.Machine.{step, run}
 use Rattle.terminal.specs.Closes.{OpenWithBlock, Closes}
-use Rattle.terminal.specs.Written.{MayWrite}
+use Rattle.terminal.specs.Written.{tableAddress, MayWrite}
 
 -- the link of the message's block: cell 63, all sixteen bits
 abbrev pub linkOf : OpenMessage → Card → ℕ
 linkOf message old = cellAt (old .ram) (message .block) 63
 
--- the address of its table cell: in the table block of its opening
-abbrev pub tableAddress : OpenMessage → ℕ
-tableAddress message = wordAddress (message .home) (formatOf (message .command) .cell)
-
--- what stands in that cell
+-- what stands in its table cell
 abbrev pub tableWordOf : OpenMessage → Card → ℕ
 tableWordOf message old = cellAt (old .ram) (message .home) (formatOf (message .command) .cell)
 

@@ -15,6 +15,10 @@ use Rattle.terminal.specs.State.{Card}
 use Rattle.terminal.specs.Event.{Event, word, silence, hostWrite}
 use Rattle.terminal.specs.Closes.{OpenWithBlock, wordJudged, Closes}
 
+-- the address of a message's table cell: in the table block of its opening
+abbrev pub tableAddress : OpenMessage → ℕ
+tableAddress message = wordAddress (message .home) (formatOf (message .command) .cell)
+
 -- rule 8 stores the word in the next cell, which is a data cell; under busy data nothing is stored
 pub record Stores (old : Card) (message : OpenMessage) (heard : Word) : Type 0 where
   pub next : ℕ
@@ -38,7 +42,7 @@ pub data MayWrite (old : Card) : Event → ℕ → Type 0 where
   -- the table cell of its opening, unless the host has set the table block since
   table-cell : {message : OpenMessage} {event : Event} {address : ℕ}
       → OpenWithBlock old message → Closes old message event → message .moved ≡ false
-      → address ≡ wordAddress (message .home) (formatOf (message .command) .cell)
+      → address ≡ tableAddress message
       → MayWrite old event address
   -- as many cells as the host writes words, from their address on
   host-cell : {start address : ℕ} {words : List ℕ}
