@@ -1,7 +1,7 @@
 -- What words and silences never write, in document 01's words: `other-cells-kept`, the other cells of
 -- the open message's block, and `cells-elsewhere-kept`, every cell of every other block; save the
--- table cell. With nothing open they write nothing. For every card, fit or not, over memory of any
--- length. Assumes nothing.
+-- table cell. With nothing open they write nothing, nor do the host's actions but the write of words.
+-- For every card, fit or not, over memory of any length. Assumes nothing.
 use mathlib.Core.Path.{_≡_, subst}
 use mathlib.Core.Logic.{_≢_}
 use Prim.Native.Nat.{ℕ, _≤_, _<_}
@@ -12,7 +12,7 @@ use Rattle.message.specs.declared.state.Message.the-variants.{Idle, Open}
 use Rattle.terminal.specs.State.{Card}
 use Rattle.terminal.specs.Event.{Event}
 use Rattle.terminal.specs.Machine.{step}
-use Rattle.terminal.specs.Closes.{OpenWithBlock}
+use Rattle.terminal.specs.Closes.{OpenWithBlock, Closes}
 use Rattle.terminal.specs.Written.{
   tableAddress,
   MayWrite,
@@ -22,11 +22,29 @@ use Rattle.terminal.specs.Written.{
   OnBus,
   a-word,
   a-silence,
+  OtherAction,
+  a-queue-read,
+  a-table-move,
+  a-flags-write,
   OtherCell,
 }
 use Rattle.terminal.proofs.StepFrame.{step-writes-only}
 
--- ---- with nothing open
+-- ---- what writes nothing
+
+-- a queue read, a setting of the table block, of the flags: they close no message
+action-closes-nothing : {event : Event} {message : OpenMessage} (old : Card)
+    → OtherAction event → Closes old message event → ⊥
+action-closes-nothing old a-queue-read = elim [ ]
+action-closes-nothing old a-table-move = elim [ ]
+action-closes-nothing old a-flags-write = elim [ ]
+
+pub action-may-write-nothing : {event : Event} {address : ℕ} (old : Card)
+    → OtherAction event → MayWrite old event address → ⊥
+action-may-write-nothing old action (service-cell with-block closes from to is) =
+    action-closes-nothing old action closes
+action-may-write-nothing old action (table-cell with-block closes stays is) =
+    action-closes-nothing old action closes
 
 not-idle : {message : OpenMessage} (old : Card) → old .core .message ≡ Idle
     → OpenWithBlock old message → ⊥
@@ -35,7 +53,7 @@ not-idle old idle with-block =
     let clash : _≡_ {A = ℕ} 0 1 = cc in
     omega arith
 
--- words and silences write nothing
+-- words and silences where nothing is open
 pub idle-may-write-nothing : {event : Event} {address : ℕ} (old : Card)
     → old .core .message ≡ Idle → OnBus event → MayWrite old event address → ⊥
 idle-may-write-nothing old idle a-word (data-cell with-block stores is) =

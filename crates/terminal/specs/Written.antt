@@ -12,7 +12,15 @@ use Rattle.message.specs.declared.state.OpenMessage.{OpenMessage}
 use Rattle.message.specs.declared.state.Word.{Word}
 use Rattle.message.specs.Format.{formatOf}
 use Rattle.terminal.specs.State.{Card}
-use Rattle.terminal.specs.Event.{Event, word, silence, hostWrite}
+use Rattle.terminal.specs.Event.{
+  Event,
+  word,
+  silence,
+  queueRead,
+  hostWrite,
+  tableMove,
+  flagsWrite,
+}
 use Rattle.terminal.specs.Closes.{OpenWithBlock, wordJudged, Closes}
 
 -- the address of a message's table cell: in the table block of its opening
@@ -61,6 +69,12 @@ pub record WritesOnly (Written : ℕ → Type 0) (ram new : List ℕ) : Type 0 w
 pub data OnBus : Event → Type 0 where
   a-word : {heard : Word} → OnBus (word heard)
   a-silence : {line : Bool} {time : ℕ} → OnBus (silence line time)
+
+-- the host's actions that are no write of words
+pub data OtherAction : Event → Type 0 where
+  a-queue-read : OtherAction queueRead
+  a-table-move : {table : ℕ} → OtherAction (tableMove table)
+  a-flags-write : {flags : ℕ} → OtherAction (flagsWrite flags)
 
 -- a block's other cells, 32 to 57, 62 and the link: neither data nor service cells
 pub record OtherCell (cell : ℕ) : Type 0 where
