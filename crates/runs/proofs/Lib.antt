@@ -14,6 +14,7 @@
 --     Switches        mode codes 4 to 8: shut lines and terminal flag inhibit
 --     Illegal         illegal commands
 --     Closing         links, table moves, a block that is the table, time
+--     Chains          the chain rule and what may be written, at work, and what is false with less
 --     Queue           joining, reading and overflow
 --     Refusals        refusals 1, 8, 3 and setup's 2, 3, 8, in their order
 --     Unfit           refusal 4: unfit states
@@ -33,6 +34,7 @@ mod Remembered
 mod Switches
 mod Illegal
 mod Closing
+mod Chains
 mod Queue
 mod Refusals
 mod Unfit

@@ -58,6 +58,7 @@ valuesLine (status ∷ words) = statusLine status words
 abbrev pub replyLine : List ℕ → Reply → List ℕ
 replyLine ram reply = valuesLine (replyWords ram reply)
 
+-- of an answer: that of a reply, or the word of a queue read
 abbrev pub answerLine : List ℕ → Answer → List ℕ
 answerLine ram (Replied reply) = replyLine ram reply
 answerLine ram (QueueWord word) = queueLine word
