@@ -15,6 +15,7 @@
 --     Illegal         illegal commands
 --     Closing         links, table moves, a block that is the table, time
 --     Chains          the chain rule and what may be written, at work, and what is false with less
+--     Sent            the words of a reply are those of the silence
 --     Queue           joining, reading and overflow
 --     Refusals        refusals 1, 8, 3 and setup's 2, 3, 8, in their order
 --     Unfit           refusal 4: unfit states
@@ -35,6 +36,7 @@ mod Switches
 mod Illegal
 mod Closing
 mod Chains
+mod Sent
 mod Queue
 mod Refusals
 mod Unfit

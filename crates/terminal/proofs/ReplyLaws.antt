@@ -1,12 +1,12 @@
 -- The words that a reply sends are those in memory at the silence, though they are read after the
--- closing: `words-of-the-silence`. For every card, fit or not, over memory of any length. Assumes
--- nothing.
+-- closing: `words-of-the-silence`, and of the public action `words-of-the-silence-action`. For every
+-- card, fit or not, over memory of any length. Assumes nothing.
 use mathlib.Core.Path.{_≡_, refl, sym, ap, subst, _∙_}
 use mathlib.Core.Bool.{Bool, true, false, cond, not, _&&_}
 use mathlib.Core.List.{List, _∷_}
 use Prim.Native.Nat.{ℕ, _+_, _≤_, _<_}
 use native.Mathlib.Omega.{arith}
-use lib.Dec.{eqb}
+use lib.Dec.{eqb, leb}
 use lib.ListN.{length, getD, take, drop, length-take, length-drop}
 use lib.Seq.{ext-getD, getD-take, getD-drop}
 use Rattle.bus.specs.declared.kind.Kind.{Kind}
@@ -40,6 +40,15 @@ use Rattle.terminal.specs.Reply.{replyWords}
 use Rattle.terminal.specs.Event.{silence, Outcome}
 use Rattle.terminal.specs.SilenceStep.{silenceDone}
 use Rattle.terminal.specs.Machine.{step}
+use Rattle.terminal.specs.Actions.{
+  After,
+  after,
+  took,
+  wholeCard,
+  fitCard,
+  withMemory,
+  silenceAction,
+}
 use Rattle.terminal.specs.Closes.{silenceJudged}
 use Rattle.terminal.specs.Written.{MayWrite, service-cell, table-cell}
 use Rattle.terminal.proofs.OneBlock.Answers.{sent-at-most}
@@ -176,3 +185,25 @@ words-of-the-silence line time old (Words status block count) replied =
     (sent-cell-stays line time old status block count replied cell (wordAddress block cell) below
     refl)))
 words-of-the-silence line time old (Last status command) replied = refl
+
+-- the same of the public action, which leaves memory as it was where it refuses
+pub words-of-the-silence-action : (line time : ℕ) (old : Card) (reply : Reply)
+    → silenceAction line time old .answer ≡ Replied reply
+    → replyWords (silenceAction line time old .card .ram) reply ≡ replyWords (old .ram) reply
+unfolding silenceAction withMemory
+words-of-the-silence-action line time old reply =
+    go (wholeCard old) (fitCard old) (leb line 1)
+  where
+    acted : Bool → Bool → Bool → After
+    acted whole fit ordered =
+        cond (not whole) (after 1 (Replied Silent) old)
+        (cond (not fit) (after 4 (Replied Silent) old)
+        (cond (not ordered) (after 8 (Replied Silent) old)
+        (took (step (silence (eqb line 1) time) old))))
+
+    go : (whole fit ordered : Bool) → acted whole fit ordered .answer ≡ Replied reply
+        → replyWords (acted whole fit ordered .card .ram) reply ≡ replyWords (old .ram) reply
+    go false fit ordered replied = refl
+    go true false ordered replied = refl
+    go true true false replied = refl
+    go true true true replied = words-of-the-silence (eqb line 1) time old reply replied
