@@ -249,8 +249,8 @@ cells-elsewhere-would-differ claim =
     claim quiet filled (received false 2) 1 3 refl a-silence (λ same. omega arith) (omega arith) in
     omega arith
 
--- where the block is the table, the table cell is one of its other cells: subaddress 3 transmits from
--- block 1 by cell 35
+-- where the block is the table, the table cell is one of its other cells: subaddress 3 transmits
+-- from block 1 by cell 35
 other-cells-would-differ :
     ((event : Event) (old : Card) (message : OpenMessage) (cell : ℕ)
     → old .core .message ≡ Open message → OnBus event → OtherCell cell

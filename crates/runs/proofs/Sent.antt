@@ -1,5 +1,5 @@
--- The words of a reply are those in memory at the silence, at work: the table block sends, though the
--- closing writes cells of it. Said of a reply that was not given, it is false. Assumes nothing.
+-- The words of a reply are those in memory at the silence, at work: the table block sends, though
+-- the closing writes cells of it. Said of a reply that was not given, it is false. Assumes nothing.
 use mathlib.Core.Path.{_≡_, refl, ap}
 use mathlib.Core.Bool.{Bool, false}
 use mathlib.Core.List.{List, [], _∷_}

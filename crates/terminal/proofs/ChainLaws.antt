@@ -137,8 +137,8 @@ chain-moves-on old message event asked =
     (old .ram) (asked .with-block .has-block) (asked .table-stays)
     (cell-in-table (kindOf (message .command)) (message .command)) (asked .in-memory)
 
--- .. unless the host has set the table block since: the table cell stays as it was, where it is none
--- of the cells 58 to 61 of the message's block
+-- .. unless the host has set the table block since: the table cell stays as it was, where it is
+-- none of the cells 58 to 61 of the message's block
 pub moved-chain-stays : (old : Card) (message : OpenMessage) (event : Event)
     → OpenWithBlock old message → Closes old message event → message .moved ≡ true
     → ((cell : ℕ) → 58 ≤ cell → cell ≤ 61

@@ -1,7 +1,7 @@
--- What words and silences never write, in document 01's words: `other-cells-kept`, the other cells of
--- the open message's block, and `cells-elsewhere-kept`, every cell of every other block; save the
--- table cell. With nothing open they write nothing, nor do the host's actions but the write of words.
--- For every card, fit or not, over memory of any length. Assumes nothing.
+-- What words and silences never write, in document 01's words: `other-cells-kept`, the other cells
+-- of the open message's block, and `cells-elsewhere-kept`, every cell of every other block; save
+-- the table cell. With nothing open they write nothing, nor do the host's actions but the write of
+-- words. For every card, fit or not, over memory of any length. Assumes nothing.
 use mathlib.Core.Path.{_≡_, subst}
 use mathlib.Core.Logic.{_≢_}
 use Prim.Native.Nat.{ℕ, _≤_, _<_}

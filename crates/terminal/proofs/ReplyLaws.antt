@@ -1,6 +1,6 @@
 -- The words that a reply sends are those in memory at the silence, though they are read after the
--- closing: `words-of-the-silence`, and of the public action `words-of-the-silence-action`. For every
--- card, fit or not, over memory of any length. Assumes nothing.
+-- closing: `words-of-the-silence`, and of the public action `words-of-the-silence-action`. For
+-- every card, fit or not, over memory of any length. Assumes nothing.
 use mathlib.Core.Path.{_≡_, refl, sym, ap, subst, _∙_}
 use mathlib.Core.Bool.{Bool, true, false, cond, not, _&&_}
 use mathlib.Core.List.{List, _∷_}

@@ -1,7 +1,7 @@
 -- What one event leaves alone: every cell that `specs/Written.antt` does not let it write, on every
 -- card, fit or not, over memory of any length.
---     step-writes-only    the law
---     word-step, silence-step    a step by what the word or the silence was judged
+--     step-writes-only           the law
+--     word-step, silence-step    what a step does where a message is open
 -- Assumes nothing.
 use mathlib.Core.Path.{_≡_, refl, ap, _∙_}
 use mathlib.Core.Bool.{Bool, true, false, cond}
@@ -81,7 +81,7 @@ use Rattle.terminal.specs.Written.{
 }
 use Rattle.terminal.proofs.StoreLaws.{stores-with-block, stores-data}
 
--- ---- a step, by what was judged
+-- ---- what a step does where a message is open, by what the word or the silence was judged
 
 module _ (old : Card) (message : OpenMessage) (is-open : old .core .message ≡ Open message) where
   pub word-step : (heard : Word) {act : WordAct} → wordJudged old message heard ≡ act

@@ -1,6 +1,6 @@
--- Where rule 8 stores a word: the message has a block, the next cell is a data cell, and busy data do
--- not keep the word back. For every message, fit or not, by `search` through the tests of the rules.
--- Assumes nothing.
+-- Where rule 8 stores a word: the message has a block, the next cell is a data cell, and busy data
+-- do not keep the word back. For every message, fit or not, by `search` through the tests of the
+-- rules. Assumes nothing.
 use mathlib.Core.Path.{_≡_, refl, subst}
 use mathlib.Core.Bool.{Bool, true, false, cond, _&&_}
 use Prim.Native.Nat.{ℕ, _≤_, _<_}
