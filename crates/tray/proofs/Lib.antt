@@ -12,6 +12,9 @@
 --     EndLaws       a call comes to an end
 --     RoomLaws      a buffer with room for a whole recording holds all its lines
 --     PieceLaws     any pieces print what the whole prints
+--     SoundLaws     a field leaves the memory whole and the terminal fit
+--     SoundPieces   a call does so, and a recording that is read in pieces
+--     ByActions     a run is what the library's actions make
 --     OneBlock      one broken message costs one block, over recordings
 --     Determined    each public contract allows one outcome alone
 pub mod HappenLaws
@@ -27,5 +30,8 @@ pub mod WindowLaws
 pub mod EndLaws
 pub mod RoomLaws
 pub mod PieceLaws
+pub mod SoundLaws
+pub mod SoundPieces
+pub mod ByActions
 pub mod OneBlock
 pub mod Determined

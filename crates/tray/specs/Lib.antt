@@ -5,4 +5,6 @@ pub mod Window
 pub mod Held
 pub mod Row
 pub mod Pieces
+pub mod Sound
+pub mod ByActions
 pub mod OneBlock
