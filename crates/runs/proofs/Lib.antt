@@ -20,6 +20,7 @@
 --     Refusals        refusals 1, 8, 3 and setup's 2, 3, 8, in their order
 --     Unfit           refusal 4: unfit states
 --     Marked          the ten marked cases of document 01, one table with one proof
+--     ByActions       the library's actions make document 01's run; what is refused with less
 --     OneBlock        one broken message costs one block: two runs, and what is false with less
 pub mod Machine
 pub mod Telling
@@ -41,4 +42,5 @@ mod Queue
 mod Refusals
 mod Unfit
 mod Marked
+mod ByActions
 mod OneBlock

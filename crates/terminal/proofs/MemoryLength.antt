@@ -89,20 +89,20 @@ abbrev SameLength : Card → Outcome → Type 0
 SameLength old outcome = length (outcome .card .ram) ≡ length (old .ram)
 
 -- each act of a word
-act-keeps-length : (act : WordAct) (format : Format) (message : OpenMessage) (heard : Word)
+word-act-keeps-length : (act : WordAct) (format : Format) (message : OpenMessage) (heard : Word)
     (old : Card) → SameLength old (wordDone act format message heard old)
 unfolding wordDone faulted closing opening
-act-keeps-length Ignore format message heard old = refl
-act-keeps-length (Store taken) format message heard old =
+word-act-keeps-length Ignore format message heard old = refl
+word-act-keeps-length (Store taken) format message heard old =
     cell-keeps (message .block) (message .taken) (heard .value) .same-length (old .ram)
-act-keeps-length (Check taken) format message heard old = refl
-act-keeps-length (TakeSecond value) format message heard old = refl
-act-keeps-length TakeStatus format message heard old = refl
-act-keeps-length (Fault code) format message heard old =
+word-act-keeps-length (Check taken) format message heard old = refl
+word-act-keeps-length (TakeSecond value) format message heard old = refl
+word-act-keeps-length TakeStatus format message heard old = refl
+word-act-keeps-length (Fault code) format message heard old =
     closing-keeps-length format _ (heard .time) message (old .ram)
-act-keeps-length Supersede format message heard old =
+word-act-keeps-length Supersede format message heard old =
     closing-keeps-length format _ (heard .time) message (old .ram)
-act-keeps-length Drop format message heard old = refl
+word-act-keeps-length Drop format message heard old = refl
 
 word-keeps-length : (message : Message) (heard : Word) (old : Card)
     → SameLength old (wordMet message heard old)
@@ -113,26 +113,26 @@ word-keeps-length Idle heard old = go (ownCommand (old .core .station) (old .cor
     go true = refl
     go false = refl
 word-keeps-length (Open message) heard old =
-    act-keeps-length
+    word-act-keeps-length
     (onWord (old .core .station) (old .core .flags) (formatOf (message .command)) message heard)
     (formatOf (message .command)) message heard old
 
 -- each act of a silence
-hush-keeps-length : (act : SilenceAct) (format : Format) (message : OpenMessage) (time : ℕ)
+silence-act-keeps-length : (act : SilenceAct) (format : Format) (message : OpenMessage) (time : ℕ)
     (old : Card) → SameLength old (silenceDone act format message time old)
 unfolding silenceDone faulted ended closing
-hush-keeps-length IgnoreSilence format message time old = refl
-hush-keeps-length AwaitStatus format message time old = refl
-hush-keeps-length (FaultSilence code) format message time old =
+silence-act-keeps-length IgnoreSilence format message time old = refl
+silence-act-keeps-length AwaitStatus format message time old = refl
+silence-act-keeps-length (FaultSilence code) format message time old =
     closing-keeps-length format _ time message (old .ram)
-hush-keeps-length End format message time old =
+silence-act-keeps-length End format message time old =
     closing-keeps-length format _ time message (old .ram)
 
 silence-keeps-length : (message : Message) (line : Bool) (time : ℕ) (old : Card)
     → SameLength old (silenceMet message line time old)
 silence-keeps-length Idle line time old = refl
 silence-keeps-length (Open message) line time old =
-    hush-keeps-length (onSilence (formatOf (message .command)) message line)
+    silence-act-keeps-length (onSilence (formatOf (message .command)) message line)
     (formatOf (message .command)) message time old
 
 pub step-keeps-length : (event : Event) (old : Card)

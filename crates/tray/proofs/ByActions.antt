@@ -132,7 +132,7 @@ field-by-action bytes are place old {field} {next} is sound =
     action-taken bytes place next (old .card) (sound .whole-memory) field
     (taken-in-order bytes place (old .begun) is)
     (taken-fits-widths bytes are place (old .begun) is)
-    (λ other. sound .fit (begun-before bytes are place old is other))
+    (λ other. sound .fit (begun-before bytes place old is other))
 
 -- ---- a run is what the actions make
 
@@ -150,7 +150,7 @@ by-reading rest old bytes (Taken field next) are sound then is =
     omega (arith, length-drop next bytes, within .moves-on, within .ends-inside) in
     acts sound is (field-by-action bytes are 0 old is sound)
     (then (taking bytes field next old) (drop next bytes) fewer (bytes-of-drop next bytes are)
-    (taking-is-sound bytes are 0 old is next sound))
+    (taking-is-sound bytes 0 old is are next sound))
 by-reading rest old bytes End are sound then is = ends sound is
 by-reading rest old bytes (Refused number place) are sound then is = refuses sound is
 

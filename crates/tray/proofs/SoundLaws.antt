@@ -81,16 +81,17 @@ happening-is-fit bytes (Table table) place next old in-order fits fit =
 happening-is-fit bytes (Flags flags) place next old in-order fits fit =
     fit-stays-fit (flagsWrite flags) old in-order (fit refl)
 
-module _ (bytes : List ℕ) (are : AreBytes bytes) (place : ℕ) (old : Tray) {field : Field}
-    {next : ℕ} (is : readAt bytes place (old .begun) ≡ Taken field next) where
+module _ (bytes : List ℕ) (place : ℕ) (old : Tray) {field : Field} {next : ℕ}
+    (is : readAt bytes place (old .begun) ≡ Taken field next) where
   -- a field that is no setup has one before it
   pub begun-before : isSetup field ≡ false → old .begun ≡ true
   begun-before other =
       not-false (old .begun) (sym (setup-by-turn bytes place (old .begun) is) ∙ other)
 
-  pub taking-is-sound : (size : ℕ) → SoundTray old → SoundTray (taking bytes field size old)
+  pub taking-is-sound : AreBytes bytes → (size : ℕ) → SoundTray old
+      → SoundTray (taking bytes field size old)
   unfolding taking
-  taking-is-sound size sound =
+  taking-is-sound are size sound =
       record {
         whole-memory =
             happening-keeps-length (happeningOf bytes field) (old .card) ∙ sound .whole-memory;

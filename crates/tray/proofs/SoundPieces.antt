@@ -40,7 +40,7 @@ module _ (window : List ℕ) (are : AreBytes window) (last : Bool) where
       → SoundTray (old .tray) → SoundTray (passing reading window last old .tray)
   unfolding passing takes
   passing-is-sound old (Taken field next) is sound =
-      taking-is-sound window are (old .at) (old .tray) is (next - old .at) sound
+      taking-is-sound window (old .at) (old .tray) is are (next - old .at) sound
   passing-is-sound old End is sound = sound
   passing-is-sound old (Refused number place) is sound = sound
 

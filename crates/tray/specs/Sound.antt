@@ -1,4 +1,4 @@
--- A tray whose actions the library does not refuse by 1 or 4. Definitions only. Assumes nothing.
+-- A tray that no action of the library refuses by 1 or 4. Definitions only. Assumes nothing.
 use mathlib.Core.Path.{_≡_}
 use mathlib.Core.Bool.{true}
 use lib.ListN.{length}

@@ -1,0 +1,161 @@
+-- A run by the library's actions at work: document 01's recording, and what is refused over memory
+-- of another length, from a state that is not fit, and of numbers that are no bytes; with less
+-- asked the theorem is false. Assumes nothing.
+use mathlib.Core.Path.{_≡_, refl}
+use mathlib.Core.Bool.{Bool, true, _&&_}
+use mathlib.Core.List.{List, [], _∷_, _++_}
+use Prim.Native.Nat.{ℕ, zero, suc, _<_}
+use native.Mathlib.Omega.{arith}
+use lib.Dec.{ltb}
+use lib.ListN.{length, drop, replicate}
+use borrow.Author.Tests.{ltb-true}
+use Rattle.rules.proofs.Halves.{first-of-both, second-of-both}
+use Rattle.card.specs.Memory.{cardWords}
+use Rattle.queue.specs.Queue.{emptyQueue}
+use Rattle.terminal.specs.State.{card, coreAtSetup}
+use Rattle.terminal.specs.Actions.{After}
+use Rattle.recording.specs.declared.Reading.{Reading}
+use Rattle.recording.specs.declared.Reading.the-variants.{Taken, End, Refused}
+use Rattle.recording.specs.Bytes.{byteAt}
+use Rattle.recording.specs.Field.{lengthFits, fieldAt}
+use Rattle.recording.specs.Reading.{readAt}
+use Rattle.recording.proofs.InOrder.{AreBytes}
+use Rattle.runs.proofs.Telling.{runs}
+use Rattle.tray.specs.Run.{Tray, trayOver, trayAtStart, Whole, wholeFrom}
+use Rattle.tray.specs.ByActions.{actionOf, trayWith, ByActions, acts, ends, refuses}
+use Rattle.tray.proofs.ByActions.{run-by-actions}
+
+-- ---- recordings
+
+-- station 5, table block 1
+unfoldable setup : List ℕ
+setup = 0x01 ∷ 0x00 ∷ 0x03 ∷ 0x05 ∷ 0x01 ∷ 0x00 ∷ []
+
+-- two host writes, a command with its two data words, a silence, a queue read
+unfoldable behind : List ℕ
+behind =
+    0x05 ∷ 0x00 ∷ 0x04 ∷ 0x00 ∷ 0x43 ∷ 0x40 ∷ 0x02
+    ∷ 0x05 ∷ 0x00 ∷ 0x04 ∷ 0x00 ∷ 0xBF ∷ 0x40 ∷ 0x03
+    ∷ 0x02 ∷ 0x00 ∷ 0x07 ∷ 0x06 ∷ 0x28 ∷ 0x62 ∷ 0x00 ∷ 0x00 ∷ 0x00 ∷ 0x28
+    ∷ 0x02 ∷ 0x00 ∷ 0x07 ∷ 0x0C ∷ 0x11 ∷ 0x11 ∷ 0x00 ∷ 0x00 ∷ 0x00 ∷ 0x3C
+    ∷ 0x02 ∷ 0x00 ∷ 0x07 ∷ 0x0C ∷ 0x22 ∷ 0x22 ∷ 0x00 ∷ 0x00 ∷ 0x00 ∷ 0x50
+    ∷ 0x03 ∷ 0x00 ∷ 0x05 ∷ 0x00 ∷ 0x00 ∷ 0x00 ∷ 0x00 ∷ 0x64
+    ∷ 0x04 ∷ 0x00 ∷ 0x00 ∷ []
+
+-- document 01's recording
+abbrev recording : List ℕ
+recording = setup ++ behind
+
+-- a table field that holds 300, which no byte can spell
+abbrev noBytes : List ℕ
+noBytes = setup ++ 0x06 ∷ 0x00 ∷ 0x01 ∷ 300 ∷ []
+
+-- ---- the numbers that the actions of its fields give
+
+abbrev numbersOf : Reading → (Tray → List ℕ → List ℕ) → Tray → List ℕ → List ℕ
+numbersOf (Taken field next) rest old bytes =
+    let left : After = actionOf bytes field (old .card) in
+    left .refusal ∷ rest (trayWith (left .card) next old) (drop next bytes)
+numbersOf End rest old bytes = []
+numbersOf (Refused number place) rest old bytes = []
+
+-- of so many fields at the most
+unfoldable numbers : ℕ → Tray → List ℕ → List ℕ
+numbers zero old bytes = []
+numbers (suc most) old bytes = numbersOf (readAt bytes 0 (old .begun)) (numbers most) old bytes
+
+abbrev AllZero : List ℕ → Type 0
+AllZero [] = Unit {0}
+AllZero (number ∷ more) = (number ≡ 0) × AllZero more
+
+-- in a run by actions they are all 0
+none-refused : {old : Tray} {bytes : List ℕ} {made : Whole} → ByActions old bytes made
+    → (most : ℕ) → AllZero (numbers most old bytes)
+unfolding numbers
+none-refused run zero = tt
+none-refused (acts sound is taken more) (suc most) =
+    rw (is, taken) (refl, none-refused more most)
+none-refused (ends sound is) (suc most) = rw is tt
+none-refused (refuses sound is) (suc most) = rw is tt
+
+-- to unfold `all` is to unfold the recordings, the reader and the actions
+unfoldable all : ℕ
+unfolding runs setup behind numbers actionOf trayOver trayAtStart readAt lengthFits fieldAt
+all = 0
+
+-- ---- document 01's recording
+
+-- eight fields, eight actions, none refused
+the-recording-is-taken :
+    numbers 9 trayAtStart recording ≡ 0 ∷ 0 ∷ 0 ∷ 0 ∷ 0 ∷ 0 ∷ 0 ∷ 0 ∷ []
+unfolding all
+the-recording-is-taken = refl
+
+abbrev allBytes : List ℕ → Bool
+allBytes [] = true
+allBytes (byte ∷ bytes) = ltb byte 256 && allBytes bytes
+
+are-bytes : (bytes : List ℕ) → allBytes bytes ≡ true → (place : ℕ) → byteAt bytes place < 256
+are-bytes [] all-are place = omega arith
+are-bytes (byte ∷ bytes) all-are zero =
+    ltb-true byte 256 (first-of-both (ltb byte 256) (allBytes bytes) all-are)
+are-bytes (byte ∷ bytes) all-are (suc place) =
+    are-bytes bytes (second-of-both (ltb byte 256) (allBytes bytes) all-are) place
+
+-- the theorem, over memory of zeros
+the-recording-is-by-actions : ByActions trayAtStart recording (wholeFrom trayAtStart recording)
+unfolding all
+the-recording-is-by-actions =
+    run-by-actions (replicate cardWords 0) recording refl (are-bytes recording refl)
+
+-- ---- with less asked
+
+-- over one word of memory what needs memory is refused by 1: host writes, words and the silence
+over-one-word-it-is-refused :
+    numbers 9 (trayOver (0 ∷ [])) recording ≡ 0 ∷ 1 ∷ 1 ∷ 1 ∷ 1 ∷ 1 ∷ 1 ∷ 0 ∷ []
+unfolding all
+over-one-word-it-is-refused = refl
+
+-- 16,385 words are one too many
+over-a-word-too-many-it-is-refused :
+    numbers 9 (trayOver (replicate 16385 0)) recording ≡ 0 ∷ 1 ∷ 1 ∷ 1 ∷ 1 ∷ 1 ∷ 1 ∷ 0 ∷ []
+unfolding all
+over-a-word-too-many-it-is-refused = refl
+
+not-over-any-memory :
+    ((ram bytes : List ℕ) → AreBytes bytes
+    → ByActions (trayOver ram) bytes (wholeFrom (trayOver ram) bytes))
+    → ⊥
+unfolding all
+not-over-any-memory claim =
+    let none : _≡_ {A = ℕ} 1 0 =
+    none-refused (claim (0 ∷ []) recording (are-bytes recording refl)) 2 .1 .0 in
+    omega arith
+
+-- from station 31 everything is refused by 4
+from-station-31-it-is-refused :
+    numbers 9
+    (record {
+      begun = true;
+      card = card (coreAtSetup 31 1 0) emptyQueue (replicate cardWords 0);
+      fields = 1;
+      offset = 6;
+    }) behind
+    ≡ 4 ∷ 4 ∷ 4 ∷ 4 ∷ 4 ∷ 4 ∷ 4 ∷ []
+unfolding all
+from-station-31-it-is-refused = refl
+
+-- the reader has no test for table block 300, and the action refuses it by 3
+table-block-300-is-refused : numbers 3 trayAtStart noBytes ≡ 0 ∷ 3 ∷ []
+unfolding all
+table-block-300-is-refused = refl
+
+not-of-any-numbers :
+    ((ram bytes : List ℕ) → length ram ≡ cardWords
+    → ByActions (trayOver ram) bytes (wholeFrom (trayOver ram) bytes))
+    → ⊥
+unfolding all
+not-of-any-numbers claim =
+    let none : _≡_ {A = ℕ} 3 0 =
+    none-refused (claim (replicate cardWords 0) noBytes refl) 2 .1 .0 in
+    omega arith
