@@ -22,7 +22,15 @@ use Rattle.recording.specs.Reading.{readAt}
 use Rattle.recording.proofs.InOrder.{AreBytes}
 use Rattle.runs.proofs.Telling.{runs}
 use Rattle.tray.specs.Run.{Tray, trayOver, trayAtStart, Whole, wholeFrom}
-use Rattle.tray.specs.ByActions.{actionOf, trayWith, ByActions, acts, ends, refuses}
+use Rattle.tray.specs.ByActions.{
+  actionOf,
+  firstField,
+  trayWith,
+  ByActions,
+  acts,
+  ends,
+  refuses,
+}
 use Rattle.tray.proofs.ByActions.{run-by-actions}
 
 -- ---- recordings
@@ -76,7 +84,7 @@ none-refused run zero = tt
 none-refused (acts sound is taken more) (suc most) =
     rw (is, taken) (refl, none-refused more most)
 none-refused (ends sound is) (suc most) = rw is tt
-none-refused (refuses sound is) (suc most) = rw is tt
+none-refused (refuses sound is alike) (suc most) = rw is tt
 
 -- to unfold `all` is to unfold the recordings, the reader and the actions
 unfoldable all : ℕ
@@ -108,6 +116,44 @@ unfolding all
 the-recording-is-by-actions =
     run-by-actions (replicate cardWords 0) recording refl (are-bytes recording refl)
 
+-- ---- fields that the reader refuses for what they hold
+
+-- the reader's number for the first field, and its action's
+abbrev numberOf : Reading → ℕ
+numberOf (Taken field next) = 0
+numberOf End = 0
+numberOf (Refused number place) = number
+
+abbrev bothNumbers : List ℕ → Tray → List ℕ
+bothNumbers bytes old =
+    numberOf (readAt bytes 0 (old .begun))
+    ∷ actionOf bytes (firstField bytes) (old .card) .refusal
+    ∷ []
+
+station-31-gets-2-from-both :
+    bothNumbers (0x01 ∷ 0x00 ∷ 0x03 ∷ 31 ∷ 0x01 ∷ 0x00 ∷ []) trayAtStart ≡ 2 ∷ 2 ∷ []
+unfolding all
+station-31-gets-2-from-both = refl
+
+-- a station after its setup, over memory of zeros
+abbrev stationed : ℕ → Tray
+stationed station =
+    record {
+      begun = true;
+      card = card (coreAtSetup station 1 0) emptyQueue (replicate cardWords 0);
+      fields = 1;
+      offset = 6;
+    }
+
+-- the second word is past the last address, 16,383
+two-words-there-get-8-from-both :
+    bothNumbers
+    (0x05 ∷ 0x00 ∷ 0x06 ∷ 0x3F ∷ 0xFF ∷ 0x12 ∷ 0x34 ∷ 0x56 ∷ 0x78 ∷ [])
+    (stationed 5)
+    ≡ 8 ∷ 8 ∷ []
+unfolding all
+two-words-there-get-8-from-both = refl
+
 -- ---- with less asked
 
 -- over one word of memory what needs memory is refused by 1: host writes, words and the silence
@@ -134,14 +180,7 @@ not-over-any-memory claim =
 
 -- from station 31 everything is refused by 4
 from-station-31-it-is-refused :
-    numbers 9
-    (record {
-      begun = true;
-      card = card (coreAtSetup 31 1 0) emptyQueue (replicate cardWords 0);
-      fields = 1;
-      offset = 6;
-    }) behind
-    ≡ 4 ∷ 4 ∷ 4 ∷ 4 ∷ 4 ∷ 4 ∷ 4 ∷ []
+    numbers 9 (stationed 31) behind ≡ 4 ∷ 4 ∷ 4 ∷ 4 ∷ 4 ∷ 4 ∷ 4 ∷ []
 unfolding all
 from-station-31-it-is-refused = refl
 

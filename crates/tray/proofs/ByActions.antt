@@ -1,8 +1,9 @@
 -- A run and the library cannot part. Of every recording, over every memory of 16,384 words, a run
 -- is what the library's actions make, `run-by-actions`, and they make nothing else,
--- `actions-make-the-run`; so no field of a run meets a refusal of its action. The elements of the
--- list have to be bytes: the reader has no test for a table block above 255, which no byte can
--- spell, and the actions refuse one by 3. Assumes nothing.
+-- `actions-make-the-run`. So no field that is taken meets a refusal of its action, and one that is
+-- refused for what it holds meets the same. The elements of the list have to be bytes: for a table
+-- block above 255, which no byte can spell, the reader has no test, and the actions refuse it by 3.
+-- Assumes nothing.
 use mathlib.Core.Path.{_≡_, refl, sym, ap, _∙_}
 use mathlib.Core.Bool.{Bool, true, false, _&&_}
 use mathlib.Core.List.{List}
@@ -73,6 +74,7 @@ use Rattle.tray.specs.ByActions.{actionOf, trayWith, ByActions, acts, en
 use Rattle.tray.proofs.PrintedLaws.{whole-by-reading}
 use Rattle.tray.proofs.SoundLaws.{start-is-sound, begun-before, taking-is-sound}
 use Rattle.tray.proofs.SoundPieces.{bytes-of-drop}
+use Rattle.tray.proofs.RefusedAlike.{refused-alike}
 
 -- ---- an action that refuses nothing
 
@@ -152,7 +154,8 @@ by-reading rest old bytes (Taken field next) are sound then is =
     (then (taking bytes field next old) (drop next bytes) fewer (bytes-of-drop next bytes are)
     (taking-is-sound bytes 0 old is are next sound))
 by-reading rest old bytes End are sound then is = ends sound is
-by-reading rest old bytes (Refused number place) are sound then is = refuses sound is
+by-reading rest old bytes (Refused number place) are sound then is =
+    refuses sound is (refused-alike bytes are old sound is)
 
 by-turns : (most : ℕ) (old : Tray) (bytes : List ℕ) → length bytes < most
     → AreBytes bytes → SoundTray old → ByActions old bytes (wholeBy most old bytes)
@@ -184,5 +187,5 @@ actions-make-the-run {old} {bytes}
     (wholeFrom (trayWith (left .card) next old) (drop next bytes))) same
     ∙ sym (whole-by-reading old bytes (Taken field next) is)
 actions-make-the-run {old} {bytes} (ends sound is) are = sym (whole-by-reading old bytes End is)
-actions-make-the-run {old} {bytes} (refuses {number = number} {place = place} sound is) are =
+actions-make-the-run {old} {bytes} (refuses {number = number} {place = place} sound is alike) are =
     sym (whole-by-reading old bytes (Refused number place) is)

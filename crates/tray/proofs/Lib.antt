@@ -14,6 +14,7 @@
 --     PieceLaws     any pieces print what the whole prints
 --     SoundLaws     a field leaves the memory whole and the terminal fit
 --     SoundPieces   a call does so, and a recording that is read in pieces
+--     RefusedAlike  what the reader refuses for its value, the action refuses by the same number
 --     ByActions     a run is what the library's actions make
 --     OneBlock      one broken message costs one block, over recordings
 --     Determined    each public contract allows one outcome alone
@@ -32,6 +33,7 @@ pub mod RoomLaws
 pub mod PieceLaws
 pub mod SoundLaws
 pub mod SoundPieces
+pub mod RefusedAlike
 pub mod ByActions
 pub mod OneBlock
 pub mod Determined

@@ -1,7 +1,7 @@
--- What keeps every caller right. A call over a window leaves a sound tray sound, `call-is-sound`; so
--- wherever a program has come that reads a recording in pieces, its tray is sound if it began so:
--- `streamed-is-sound`, and at the end `finished-is-sound`. The elements of the lists have to be
--- bytes. Assumes nothing.
+-- What keeps every caller right. A call over a window leaves a sound tray sound, `call-is-sound`,
+-- and so wherever a program has come that reads a recording in pieces, its tray is sound if it
+-- began so: `streamed-is-sound`, and at the end `finished-is-sound`. The elements of the lists have
+-- to be bytes. Assumes nothing.
 use mathlib.Core.Path.{_≡_, refl, sym, subst}
 use mathlib.Core.Bool.{Bool, true, false, cond}
 use mathlib.Core.List.{List, [], _∷_, _++_}

@@ -1,10 +1,11 @@
 -- A run by the library's actions: for each field the action that the library has for it, which
--- refuses nothing. What a run does by itself, `happened` and `step`, has no part in it; that the two
--- come to the same is proved in `proofs/ByActions.antt`. Definitions only. Assumes nothing.
+-- refuses nothing. What a run does by itself, `happened` and `step`, has no part in it; that the
+-- two come to the same is proved in `proofs/ByActions.antt`. Definitions only. Assumes nothing.
 use mathlib.Core.Path.{_≡_}
-use mathlib.Core.Bool.{true}
+use mathlib.Core.Bool.{Bool, true, _||_}
 use mathlib.Core.List.{List}
 use Prim.Native.Nat.{ℕ, _+_}
+use lib.Dec.{eqb}
 use lib.ListN.{drop}
 use Rattle.terminal.specs.declared.actions.Done.{Done}
 use Rattle.terminal.specs.declared.state.Reply.the-variants.{Silent}
@@ -34,7 +35,8 @@ use Rattle.recording.specs.declared.Field.the-variants.{
   Flags,
 }
 use Rattle.recording.specs.declared.Reading.the-variants.{Taken, End, Refused}
-use Rattle.recording.specs.Bytes.{wordsAt}
+use Rattle.recording.specs.Bytes.{byteAt, wordAt, wordsAt}
+use Rattle.recording.specs.Field.{fieldAt}
 use Rattle.recording.specs.Reading.{readAt}
 use Rattle.tray.specs.Run.{Tray, counted, shownLine, lastLine, Whole, whole, withLine}
 use Rattle.tray.specs.Sound.{SoundTray}
@@ -62,6 +64,16 @@ actionOf bytes (HostWrite address first count) =
     hostWriteAction address (wordsAt bytes first count)
 actionOf bytes (Table table) = onTerminal (moveTableAction table)
 actionOf bytes (Flags flags) = onTerminal (setFlagsAction flags)
+
+-- ---- a field that is refused
+
+-- the field at the front of the bytes, by its tag and its length
+abbrev pub firstField : List ℕ → Field
+firstField bytes = fieldAt bytes (byteAt bytes 0) 3 (wordAt bytes 1)
+
+-- the reader's numbers for what a field holds; its others are for how the field stands in the bytes
+abbrev pub isForValue : ℕ → Bool
+isForValue number = eqb number 2 || eqb number 8
 
 -- ---- the run
 
@@ -92,8 +104,10 @@ pub data ByActions : Tray → List ℕ → Whole → Type 0 where
       → SoundTray old
       → readAt bytes 0 (old .begun) ≡ End
       → ByActions old bytes (whole (lastLine 0 (old .fields) (old .offset)) old)
-  -- a field that the reader refuses
+  -- a field that the reader refuses: if for what it holds, its action refuses it by that number
   refuses : {old : Tray} {bytes : List ℕ} {number place : ℕ}
       → SoundTray old
       → readAt bytes 0 (old .begun) ≡ Refused number place
+      → (isForValue number ≡ true
+      → actionOf bytes (firstField bytes) (old .card) .refusal ≡ number)
       → ByActions old bytes (whole (lastLine number (old .fields) (old .offset)) old)
