@@ -173,6 +173,24 @@ check("3: busy code 16 sends", setup(flags=2) + write(64 + 32, 0x4002) + write(1
       ["S 2808 1234", "Q 8002", "END 6"], cells={128: 0x1234, 186: 0x0801})
 check("3: busy code 17 stores", setup(flags=2) + write(64 + 31, 2) + command(mode(17), 0) + data(0xBEEF, 1) + silence(2),
       ["S 2808", "END 5"], cells={128: 0xBEEF, 186: 0x0801, 188: 2, 189: 2})
+check("3: code 18 keeps the status under busy", setup() + command(mode(1), 0) + silence(0) + flags(2) + command(mode(18), 0) + silence(0),
+      ["S 2800", f"S 2800 {mode(1):04X}", "END 6"], ["flags 02", "status 2800", f"last {mode(1):04X}"], {})
+check("3: code 18 sends the status that busy made", setup(flags=2) + command(mode(1), 0) + silence(0) + flags(0) + command(mode(18), 0)
+      + silence(0), ["S 2808", f"S 2808 {mode(1):04X}", "END 6"], ["status 2808", f"last {mode(1):04X}"], {58: 0x0800})
+check("3: code 18 looks at no table bit", setup() + write(64 + 31, 0xC002) + command(mode(18), 0) + silence(0) + READ,
+      ["S 2800 0000", "Q 0000", "END 5"], ["status 2800", "last 0000"], {95: 0xC002})
+for by, busy, bit in (("flag", 2, 0), ("table bit", 0, 0x8000)):
+    check(f"3: busy code 19 sends, by {by}", setup(flags=busy) + write(64 + 63, 0x4002 | bit) + write(191, 0x4003) + write(128, 0x1234)
+          + command(mode(19), 0) + silence(2) + READ, ["S 2808 1234", "Q 8002", "END 7"], ["status 2808", f"last {mode(19):04X}"],
+          {127: 0x4003, 128: 0x1234, 186: 0x0801, 188: 2, 189: 2, 191: 0x4003})
+    for code in (20, 21):
+        check(f"3: busy code {code} stores, by {by}", setup(flags=busy) + write(64 + 31, 0x4002 | bit) + write(191, 0x4003)
+              + command(mode(code), 0) + data(0xBEEF, 1) + silence(2) + READ, ["S 2808", "Q 8002", "END 7"],
+              ["status 2808", f"last {mode(code):04X}", "shut A 0", "shut B 0"],
+              {95: 0x4003, 128: 0xBEEF, 186: 0x0801, 188: 2, 189: 2, 191: 0x4003})
+    check(f"17: busy code 21 without its word, by {by}", setup(flags=busy) + write(64 + 31, 0x4002 | bit) + write(191, 0x4003)
+          + command(mode(21), 0) + silence(2) + READ, ["Q 8002", "END 6"], ["status 2C08", f"last {mode(21):04X}"],
+          {95: 0x4003, 186: 0x4B00, 188: 2, 189: 2, 191: 0x4003})
 check("3: illegal looks at no table bit", setup() + write(64 + 31, 0x8002) + command(mode(9), 0) + silence(0), ["S 2C00", "END 4"])
 check("4: broadcast cleared inside", setup(flags=1) + write(67, 2) + command(receive(3, 1, 31), 0) + flags(0) + data(7, 0)
       + silence(0) + PROBE, ["S 2810", "END 8"], cells={128: 7, 186: 0x2001})
