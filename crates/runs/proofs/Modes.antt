@@ -1,7 +1,7 @@
 -- Mode commands: which reply each legal code gets, which chain it goes by, what it takes and sends.
 -- What codes 4 to 8 do is in `Switches`. Assumes nothing.
 use mathlib.Core.Path.{_≡_, refl}
-use mathlib.Core.List.{List, [], _∷_}
+use mathlib.Core.List.{List, [], _∷_, _++_}
 use Prim.Native.Nat.{ℕ}
 use lib.ListN.{replicate}
 use Rattle.terminal.specs.declared.state.Reply.the-variants.{Silent, Status, Words, Last}
@@ -10,9 +10,12 @@ use Rattle.runs.proofs.Telling.{
   runs,
   commandA,
   commandB,
+  silenceA,
   silenceB,
   put,
+  receive,
   word1,
+  word2,
   quiet,
   chained,
   wordsAt,
@@ -32,6 +35,25 @@ modeChains command =
 -- a command, the word 1111, and a silence
 abbrev taking : ℕ → List Event
 taking command = commandA command 0x28 ∷ word1 ∷ quiet ∷ []
+
+-- a command alone and a silence
+abbrev alone : ℕ → List Event
+alone command = commandA command 0x28 ∷ quiet ∷ []
+
+-- the receive message of document 01's run
+abbrev received : List Event
+received = receive ∷ word1 ∷ word2 ∷ quiet ∷ []
+
+-- mode code 18, after it
+abbrev code18 : List Event
+code18 = commandA 0x2C12 0x78 ∷ silenceA 0x8C ∷ []
+
+-- busy by flag 1, and by bit 15 of the table words of cells 31 and 63
+abbrev byFlag : List Event
+byFlag = flagsWrite 2 ∷ []
+
+abbrev byTable : List Event
+byTable = put 1 31 0xC004 ∷ put 1 63 0xC008 ∷ []
 
 -- ---- replies
 
@@ -196,6 +218,66 @@ code-16-sends-its-word-under-busy : answerTo (flagsWrite 2 ∷ commandA 0x2C10 0
     ≡ replied (Words 0x2808 6 1)
 unfolding runs
 code-16-sends-its-word-under-busy = refl
+
+-- busy by flag 1 and by bit 15 of its table word: status bit 3, and the word is sent
+code-19-sends-its-word-under-busy :
+    answerTo (byFlag ++ alone 0x2C13) ∷ answerTo (byTable ++ alone 0x2C13) ∷ []
+    ≡ replicate 2 (replied (Words 0x2808 8 1))
+unfolding runs
+code-19-sends-its-word-under-busy = refl
+
+-- state word bit 11, and the word of the reply
+code-19-counts-the-word-of-its-reply-under-busy :
+    closedAs 8 (byFlag ++ alone 0x2C13) ∷ closedAs 8 (byTable ++ alone 0x2C13) ∷ []
+    ≡ replicate 2 (0x0801 ∷ 0x2808 ∷ 0 ∷ [])
+unfolding runs
+code-19-counts-the-word-of-its-reply-under-busy = refl
+
+-- by flag 1 and by bit 15 of the table word: status bit 3
+codes-20-and-21-are-answered-by-the-status-under-busy :
+    answerTo (byFlag ++ taking 0x2814) ∷ answerTo (byTable ++ taking 0x2814)
+    ∷ answerTo (byFlag ++ taking 0x2815) ∷ answerTo (byTable ++ taking 0x2815) ∷ []
+    ≡ replicate 4 (replied (Status 0x2808))
+unfolding runs
+codes-20-and-21-are-answered-by-the-status-under-busy = refl
+
+-- the word in cell 0 of block 4; state word bit 11, and the word counted; the link
+codes-20-and-21-store-their-word-under-busy :
+    wordsAt (256 ∷ 314 ∷ 95 ∷ []) (cardAfter (byFlag ++ taking 0x2814) .ram)
+    ∷ wordsAt (256 ∷ 314 ∷ 95 ∷ []) (cardAfter (byTable ++ taking 0x2814) .ram)
+    ∷ wordsAt (256 ∷ 314 ∷ 95 ∷ []) (cardAfter (byFlag ++ taking 0x2815) .ram)
+    ∷ wordsAt (256 ∷ 314 ∷ 95 ∷ []) (cardAfter (byTable ++ taking 0x2815) .ram)
+    ∷ []
+    ≡ replicate 4 (0x1111 ∷ 0x0801 ∷ 0x4005 ∷ [])
+unfolding runs
+codes-20-and-21-store-their-word-under-busy = refl
+
+-- busy changes no rule: words short
+code-21-without-its-word-is-3-under-busy :
+    closedAs 4 (byFlag ++ alone 0x2815) ∷ closedAs 4 (byTable ++ alone 0x2815) ∷ []
+    ≡ replicate 2 (0x4B00 ∷ 0x2C08 ∷ 0 ∷ [])
+unfolding runs
+code-21-without-its-word-is-3-under-busy = refl
+
+-- code 18 keeps the remembered status and sends it: busy of now does not show
+code-18-sends-the-status-of-before-busy :
+    answerTo (received ++ byFlag ++ code18) ∷ answerTo (received ++ byTable ++ code18) ∷ []
+    ≡ replicate 2 (replied (Last 0x2800 0x2862))
+unfolding runs
+code-18-sends-the-status-of-before-busy = refl
+
+-- busy of then does
+code-18-sends-the-status-that-busy-made : answerTo (byFlag ++ received ++ flagsWrite 0 ∷ code18)
+    ≡ replied (Last 0x2808 0x2862)
+unfolding runs
+code-18-sends-the-status-that-busy-made = refl
+
+-- status and last command are kept, and nothing is written
+code-18-leaves-the-card-as-it-was-under-busy :
+    cardAfter (received ++ byFlag ++ code18)
+    ≡ cardAfter (received ++ byFlag)
+unfolding runs
+code-18-leaves-the-card-as-it-was-under-busy = refl
 
 -- a mode command with a block looks at bit 15 of its table word
 code-1-is-busy-by-the-table : repliesAfter (put 1 31 0xC004 ∷ []) (0x2C01 ∷ [])

@@ -9,7 +9,7 @@ use Rattle.bus.specs.declared.kind.Kind.the-variants.{Receive}
 use Rattle.bus.specs.Kind.{kindOf}
 use Rattle.message.specs.declared.state.Word.{Word}
 use Rattle.terminal.specs.State.{Card}
-use Rattle.terminal.specs.Event.{Event, word, none, afresh}
+use Rattle.terminal.specs.Event.{Event, word, none, keeping, afresh}
 use Rattle.terminal.specs.Machine.{step, run}
 use Rattle.terminal.specs.Actions.{wordOf}
 use Rattle.terminal.specs.OneBlock.{Kept, SameAfter, Calm, Settled, Spared, ThatBlock}
@@ -67,6 +67,9 @@ unsound = word1 ∷ unsoundA 0x2222 0x50 ∷ []
 
 pub afresh-is-not-none : afresh ≡ none → ⊥
 afresh-is-not-none is = let clash : _≡_ {A = ℕ} 0 1 = cc in omega arith
+
+pub keeping-is-not-none : keeping ≡ none → ⊥
+keeping-is-not-none is = let clash : _≡_ {A = ℕ} 0 1 = cc in omega arith
 
 pub tray-command : (receiving sending : ℕ) → Receives command (chains receiving sending)
 unfolding runs chains

@@ -15,7 +15,7 @@ use Rattle.terminal.specs.declared.state.Reply.the-variants.{Silent, Status, Wo
 use Rattle.terminal.specs.declared.state.Answer.{Answer}
 use Rattle.terminal.specs.declared.state.Answer.the-variants.{Replied}
 use Rattle.terminal.specs.State.{Card}
-use Rattle.terminal.specs.Event.{Event, word, silence, queueRead, none, keeping}
+use Rattle.terminal.specs.Event.{Event, word, silence, queueRead, none}
 use Rattle.terminal.specs.Machine.{step, run}
 use Rattle.terminal.specs.Actions.{wordOf}
 use Rattle.terminal.specs.OneBlock.{
@@ -55,6 +55,7 @@ use Rattle.runs.proofs.OneBlock.Claim.{
   sound,
   unsound,
   afresh-is-not-none,
+  keeping-is-not-none,
   tray-command,
   kept-elsewhere,
 }
@@ -165,9 +166,6 @@ data SettledByAny (here there : Card) : List Event → Type 0 where
       → here .core .message ≡ Idle → there .core .message ≡ Idle → SettledByAny here there after
   opened-next : {after : List Event} (next : Word) → step (word next) here .opened ≢ none
       → SettledByAny here there (word next ∷ after)
-
-keeping-is-not-none : keeping ≡ none → ⊥
-keeping-is-not-none is = let clash : _≡_ {A = ℕ} 0 1 = cc in omega arith
 
 -- a joined command opens where the message has closed, and breaks the one that is open
 a-joined-command-would-differ : Claim Receives Calm SettledByAny Spared SameAfter → ⊥

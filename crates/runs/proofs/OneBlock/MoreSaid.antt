@@ -2,28 +2,39 @@
 -- runs that the checker computes. Assumes nothing.
 use mathlib.Core.Path.{_≡_, refl}
 use mathlib.Core.Logic.{_≢_}
+use mathlib.Core.Bool.{Bool, true}
 use mathlib.Core.List.{List, [], _∷_}
 use Prim.Native.Nat.{ℕ, _≤_, _<_}
 use native.Mathlib.Omega.{arith}
 use lib.ListN.{getD}
+use Rattle.bus.specs.declared.kind.Kind.the-variants.{ModeStatus}
+use Rattle.bus.specs.Kind.{kindOf}
+use Rattle.bus.specs.Status.{withoutError}
 use Rattle.card.specs.Memory.{wordAddress}
-use Rattle.terminal.specs.declared.state.Reply.the-variants.{Status}
+use Rattle.message.specs.declared.state.OpenMessage.{OpenMessage}
+use Rattle.message.specs.declared.state.Message.{Message}
+use Rattle.message.specs.declared.state.Message.the-variants.{Open}
+use Rattle.terminal.specs.declared.state.Reply.the-variants.{Status, Last}
+use Rattle.terminal.specs.declared.state.Answer.{Answer}
 use Rattle.terminal.specs.declared.state.Answer.the-variants.{Replied}
 use Rattle.terminal.specs.State.{Card}
 use Rattle.terminal.specs.Event.{Event, word}
 use Rattle.terminal.specs.Machine.{step, run}
+use Rattle.terminal.specs.Actions.{wordOf}
 use Rattle.terminal.specs.OneBlock.{
+  stillBefore,
   Calm,
   nothing,
   a-word,
   a-silence,
   Settled,
   closed,
+  superseded,
   Spared,
   ThatBlock,
 }
 use Rattle.runs.proofs.OneBlock.Sparing.{sparedFrom, spared-from}
-use Rattle.runs.proofs.Telling.{runs, commandA, silenceA}
+use Rattle.runs.proofs.Telling.{runs, commandA, silenceA, word1}
 use Rattle.runs.proofs.OneBlock.Claim.{
   Claim,
   Receives,
@@ -31,6 +42,7 @@ use Rattle.runs.proofs.OneBlock.Claim.{
   chains,
   sound,
   unsound,
+  keeping-is-not-none,
   tray-command,
 }
 
@@ -57,6 +69,51 @@ the-message-error-bit-differs claim =
     (spared-from 2 asked (run (word command ∷ sound) (chains 0x4002 0)) refl)
     .1 .0 in
     let differs : _≡_ {A = ℕ} 0x2800 0x2C00 = cc in
+    omega arith
+
+-- every answer, with an exception for the message error bit in a reply to "transmit status word"
+-- alone
+data SameButInStatus : Bool → Message → Answer → Answer → Type 0 where
+  the-same : {before : Bool} {message : Message} {answer : Answer}
+      → SameButInStatus before message answer answer
+  but-error : {message : OpenMessage} {status other : ℕ}
+      → kindOf (message .command) ≡ ModeStatus → withoutError status ≡ withoutError other
+      → SameButInStatus true (Open message) (Replied (Status status)) (Replied (Status other))
+
+unfoldable Answered : Bool → List Event → Card → Card → Type 0
+Answered before [] here there = Unit {0}
+Answered before (event ∷ after) here there =
+    SameButInStatus before (here .core .message) (step event here .answer)
+    (step event there .answer)
+    × Answered (stillBefore before (step event here .opened)) after
+    (step event here .card) (step event there .card)
+
+abbrev NoneForLast : (ℕ → Type 0) → List Event → Card → Card → Type 0
+NoneForLast Spent after here there = Answered true after here there
+
+same-last : {before : Bool} {message : Message} {answer other : Answer} {status last : ℕ}
+    → SameButInStatus before message answer other
+    → answer ≡ Replied (Last status last) → other ≡ Replied (Last status last)
+same-last the-same is = is
+same-last (but-error asks but) is = cc
+
+-- "transmit last command"
+abbrev asked-last : List Event
+asked-last = commandA 0x2C12 0x70 ∷ silenceA 0x80 ∷ []
+
+-- it supersedes the message of one run, and keeps the status
+the-message-error-bit-differs-in-code-18 : Claim Receives Calm Settled Spared NoneForLast → ⊥
+unfolding runs chains ThatBlock Answered sparedFrom
+the-message-error-bit-differs-in-code-18 claim =
+    let answers : Replied (Last 0x2C00 0x2862) ≡ Replied (Last 0x2800 0x2862) =
+    same-last
+    (claim (chains 0x4002 0) command sound (word1 ∷ []) asked-last (tray-command 0x4002 0)
+    (a-word refl (a-word refl (a-silence nothing))) (a-word refl nothing)
+    (superseded (wordOf 0x06 0x2C12 0x70) keeping-is-not-none refl)
+    (spared-from 2 asked-last (run (word command ∷ sound) (chains 0x4002 0)) refl)
+    .1 .0)
+    refl in
+    let differs : _≡_ {A = ℕ} 0x2C00 0x2800 = cc in
     omega arith
 
 -- ---- cells
