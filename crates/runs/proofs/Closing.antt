@@ -16,14 +16,12 @@ use Rattle.runs.proofs.Telling.{
   word1,
   word2,
   quiet,
+  received,
   wordsAt,
   answerTo,
   cardAfter,
   cellAfter,
 }
-
-abbrev received : List Event
-received = receive ∷ word1 ∷ word2 ∷ quiet ∷ []
 
 -- ---- the link
 

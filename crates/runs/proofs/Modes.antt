@@ -10,13 +10,12 @@ use Rattle.runs.proofs.Telling.{
   runs,
   commandA,
   commandB,
-  silenceA,
   silenceB,
   put,
-  receive,
   word1,
-  word2,
   quiet,
+  received,
+  code18,
   chained,
   wordsAt,
   answerTo,
@@ -27,26 +26,17 @@ use Rattle.runs.proofs.Telling.{
   closedAs,
 }
 
--- table cells 31, 32 and 63 after a command alone and a silence; without it 4004, 4006, 4008
-abbrev modeChains : ℕ → List ℕ
-modeChains command =
-    wordsAt (95 ∷ 96 ∷ 127 ∷ []) (cardAfter (commandA command 0x28 ∷ quiet ∷ []) .ram)
+-- a command alone and a silence
+abbrev alone : ℕ → List Event
+alone command = commandA command 0x28 ∷ quiet ∷ []
 
 -- a command, the word 1111, and a silence
 abbrev taking : ℕ → List Event
 taking command = commandA command 0x28 ∷ word1 ∷ quiet ∷ []
 
--- a command alone and a silence
-abbrev alone : ℕ → List Event
-alone command = commandA command 0x28 ∷ quiet ∷ []
-
--- the receive message of document 01's run
-abbrev received : List Event
-received = receive ∷ word1 ∷ word2 ∷ quiet ∷ []
-
--- mode code 18, after it
-abbrev code18 : List Event
-code18 = commandA 0x2C12 0x78 ∷ silenceA 0x8C ∷ []
+-- table cells 31, 32 and 63 after a command alone; without it 4004, 4006, 4008
+abbrev modeChains : ℕ → List ℕ
+modeChains command = wordsAt (95 ∷ 96 ∷ 127 ∷ []) (cardAfter (alone command) .ram)
 
 -- busy by flag 1, and by bit 15 of the table words of cells 31 and 63
 abbrev byFlag : List Event

@@ -2,32 +2,26 @@
 -- nothing.
 use mathlib.Core.Path.{_≡_, refl}
 use mathlib.Core.Bool.{Bool, true, false}
-use mathlib.Core.List.{List, [], _∷_, _++_}
+use mathlib.Core.List.{[], _∷_, _++_}
 use Prim.Native.Nat.{ℕ}
 use lib.ListN.{replicate, set}
 use Rattle.queue.specs.Queue.{queue, ringOf}
 use Rattle.terminal.specs.declared.state.Reply.the-variants.{Status}
 use Rattle.terminal.specs.State.{Card, card}
-use Rattle.terminal.specs.Event.{Event, queueRead, flagsWrite, replied, queueWord}
+use Rattle.terminal.specs.Event.{queueRead, flagsWrite, replied, queueWord}
 use Rattle.terminal.specs.Machine.{run}
 use Rattle.runs.proofs.Telling.{
   runs,
   commandA,
   silenceA,
   put,
-  receive,
-  word1,
-  word2,
-  quiet,
+  received,
   chained,
   answers,
   lastOutcome,
   answerTo,
   cardAfter,
 }
-
-abbrev received : List Event
-received = receive ∷ word1 ∷ word2 ∷ quiet ∷ []
 
 -- the five chains with a queue of its own: places that all hold block 7, and a ring
 abbrev queued : ℕ → ℕ → Bool → Card

@@ -16,21 +16,17 @@ use Rattle.runs.proofs.Telling.{
   word1,
   word2,
   quiet,
+  received,
+  code18,
   answerTo,
   cardAfter,
 }
-
-abbrev received : List Event
-received = receive ∷ word1 ∷ word2 ∷ quiet ∷ []
 
 abbrev broken : List Event
 broken = receive ∷ word1 ∷ unsoundA 0x2222 0x50 ∷ quiet ∷ []
 
 abbrev code2 : List Event
 code2 = commandA 0x2C02 0x78 ∷ silenceA 0x8C ∷ []
-
-abbrev code18 : List Event
-code18 = commandA 0x2C12 0x78 ∷ silenceA 0x8C ∷ []
 
 -- ---- code 2
 

@@ -80,6 +80,13 @@ word2 = dataA 0x2222 0x50
 abbrev pub quiet : Event
 quiet = silenceA 0x64
 
+-- the receive message whole, and mode code 18 after it
+abbrev pub received : List Event
+received = receive ∷ word1 ∷ word2 ∷ quiet ∷ []
+
+abbrev pub code18 : List Event
+code18 = commandA 0x2C12 0x78 ∷ silenceA 0x8C ∷ []
+
 -- ---- where a run starts
 
 -- station 5, table block 1, no flags, over a memory of zeros

@@ -71,28 +71,28 @@ the-message-error-bit-differs claim =
     let differs : _≡_ {A = ℕ} 0x2800 0x2C00 = cc in
     omega arith
 
--- every answer, with an exception for the message error bit in a reply to "transmit status word"
--- alone
-data SameButInStatus : Bool → Message → Answer → Answer → Type 0 where
+-- an answer, with the exception for the message error bit in a reply to "transmit status word" alone
+data AnswerButInStatus : Bool → Message → Answer → Answer → Type 0 where
   the-same : {before : Bool} {message : Message} {answer : Answer}
-      → SameButInStatus before message answer answer
+      → AnswerButInStatus before message answer answer
   but-error : {message : OpenMessage} {status other : ℕ}
       → kindOf (message .command) ≡ ModeStatus → withoutError status ≡ withoutError other
-      → SameButInStatus true (Open message) (Replied (Status status)) (Replied (Status other))
+      → AnswerButInStatus true (Open message) (Replied (Status status)) (Replied (Status other))
 
-unfoldable Answered : Bool → List Event → Card → Card → Type 0
-Answered before [] here there = Unit {0}
-Answered before (event ∷ after) here there =
-    SameButInStatus before (here .core .message) (step event here .answer)
+unfoldable AnswersButInStatus : Bool → List Event → Card → Card → Type 0
+AnswersButInStatus before [] here there = Unit {0}
+AnswersButInStatus before (event ∷ after) here there =
+    AnswerButInStatus before (here .core .message) (step event here .answer)
     (step event there .answer)
-    × Answered (stillBefore before (step event here .opened)) after
+    × AnswersButInStatus (stillBefore before (step event here .opened)) after
     (step event here .card) (step event there .card)
 
-abbrev NoneForLast : (ℕ → Type 0) → List Event → Card → Card → Type 0
-NoneForLast Spent after here there = Answered true after here there
+-- .. and so for every answer
+abbrev SameButInStatus : (ℕ → Type 0) → List Event → Card → Card → Type 0
+SameButInStatus Spent after here there = AnswersButInStatus true after here there
 
 same-last : {before : Bool} {message : Message} {answer other : Answer} {status last : ℕ}
-    → SameButInStatus before message answer other
+    → AnswerButInStatus before message answer other
     → answer ≡ Replied (Last status last) → other ≡ Replied (Last status last)
 same-last the-same is = is
 same-last (but-error asks but) is = cc
@@ -102,8 +102,8 @@ abbrev asked-last : List Event
 asked-last = commandA 0x2C12 0x70 ∷ silenceA 0x80 ∷ []
 
 -- it supersedes the message of one run, and keeps the status
-the-message-error-bit-differs-in-code-18 : Claim Receives Calm Settled Spared NoneForLast → ⊥
-unfolding runs chains ThatBlock Answered sparedFrom
+the-message-error-bit-differs-in-code-18 : Claim Receives Calm Settled Spared SameButInStatus → ⊥
+unfolding runs chains ThatBlock AnswersButInStatus sparedFrom
 the-message-error-bit-differs-in-code-18 claim =
     let answers : Replied (Last 0x2C00 0x2862) ≡ Replied (Last 0x2800 0x2862) =
     same-last

@@ -1,14 +1,13 @@
--- One broken message costs one block, at work where the next command cuts the message off: document
--- 01's message beside the same after its first word. All that is asked holds, twice: the command
--- that supersedes is a transmit command, which makes the status anew, so that every answer is the
--- same; or it is "transmit last command", which keeps it, so that message error shows. Assumes
--- nothing.
+-- One broken message costs one block, at work: document 01's message beside the same cut off by the
+-- next command. That is a transmit command, and every answer is the same; or it is "transmit last
+-- command", which shows message error. All that is asked holds of both. Assumes nothing.
 use mathlib.Core.Path.{_≡_, refl}
 use mathlib.Core.List.{List, [], _∷_}
-use Prim.Native.Nat.{ℕ}
+use lib.ListN.{replicate}
+use Rattle.card.specs.Sent.{sentPart}
 use Rattle.terminal.specs.declared.state.Reply.the-variants.{Silent, Words, Last}
 use Rattle.terminal.specs.State.{Card}
-use Rattle.terminal.specs.Event.{Event, word, queueRead, hostWrite, replied, queueWord}
+use Rattle.terminal.specs.Event.{Event, word, queueRead, replied, queueWord}
 use Rattle.terminal.specs.Machine.{run}
 use Rattle.terminal.specs.Actions.{wordOf}
 use Rattle.terminal.specs.OneBlock.{
@@ -33,6 +32,7 @@ use Rattle.runs.proofs.Telling.{
   commandA,
   dataA,
   silenceA,
+  put,
   word1,
   chained,
   wordsAt,
@@ -43,13 +43,13 @@ use Rattle.runs.proofs.Telling.{
 
 -- the five chains, and two words to send in block 10
 unfoldable met : Card
-met = run (hostWrite 640 (0xAAAA ∷ 0xBBBB ∷ []) ∷ []) chained
+met = run (put 10 0 0xAAAA ∷ put 10 1 0xBBBB ∷ []) chained
 
 -- the one run has `sound`; in the other the second word and the silence are missing
 abbrev cut : List Event
 cut = word1 ∷ []
 
--- a transmit message for the next words; the last command; the queue
+-- a transmit message; the last command; the queue
 abbrev by-transmit : List Event
 by-transmit =
     commandA 0x2C62 0x70 ∷ silenceA 0x80
@@ -87,7 +87,6 @@ only-block-2-differs-by-transmit : SameAfter (λ block. block ≡ 2) by-transmit
 unfolding runs met ThatBlock
 only-block-2-differs-by-transmit = one-block met command sound cut by-transmit all-holds-by-transmit
 
--- the transmit command clears message error, so code 18 after it does not show it
 the-sound-run-answers-by-transmit : answers by-transmit (run (word command ∷ sound) met)
     ≡ replied Silent ∷ replied (Words 0x2800 10 2)
     ∷ replied Silent ∷ replied (Last 0x2800 0x2C62)
@@ -95,6 +94,7 @@ the-sound-run-answers-by-transmit : answers by-transmit (run (word command ∷ s
 unfolding runs met
 the-sound-run-answers-by-transmit = refl
 
+-- the same: the transmit command makes the status anew, with message error 0, also for code 18
 the-cut-run-answers-by-transmit : answers by-transmit (run (word command ∷ cut) met)
     ≡ replied Silent ∷ replied (Words 0x2800 10 2)
     ∷ replied Silent ∷ replied (Last 0x2800 0x2C62)
@@ -157,9 +157,11 @@ the-cut-run-answers-by-last : answers by-last (run (word command ∷ cut) met)
 unfolding runs met
 the-cut-run-answers-by-last = refl
 
--- the words that both runs send
-the-cut-run-sends-the-words-of-block-10 :
-    wordsAt (640 ∷ 641 ∷ []) (run (word command ∷ cut) met .ram)
-    ≡ 0xAAAA ∷ 0xBBBB ∷ []
+-- the words of block 10, which both runs send
+both-runs-send-the-same-words :
+    sentPart (run by-last (run (word command ∷ sound) met) .ram) 10 2
+    ∷ sentPart (run by-last (run (word command ∷ cut) met) .ram) 10 2
+    ∷ []
+    ≡ replicate 2 (0xAAAA ∷ 0xBBBB ∷ [])
 unfolding runs met
-the-cut-run-sends-the-words-of-block-10 = refl
+both-runs-send-the-same-words = refl
