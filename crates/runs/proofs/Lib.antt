@@ -21,6 +21,7 @@
 --     Unfit           refusal 4: unfit states
 --     Marked          the ten marked cases of document 01, one table with one proof
 --     ByActions       the library's actions make document 01's run; what is refused with less
+--     Answers         an answer and an end: a recording that is accepted, and one that is refused
 --     OneBlock        one broken message costs one block: two runs, and what is false with less
 pub mod Machine
 pub mod Telling
@@ -43,4 +44,5 @@ mod Refusals
 mod Unfit
 mod Marked
 mod ByActions
+mod Answers
 mod OneBlock

@@ -16,6 +16,9 @@
 --     SoundPieces   a call does so, and a recording that is read in pieces
 --     RefusedAlike  what the reader refuses for its value, the action refuses by the same number
 --     ByActions     a run is what the library's actions make
+--     AcceptedLaws  what bytes tell, alone and one behind the other
+--     CutLaws       accepted bytes can be cut at the end of every field
+--     AnswerLaws    every list of bytes gets an answer and an end
 --     OneBlock      one broken message costs one block, over recordings
 --     Determined    each public contract allows one outcome alone
 pub mod HappenLaws
@@ -35,5 +38,8 @@ pub mod SoundLaws
 pub mod SoundPieces
 pub mod RefusedAlike
 pub mod ByActions
+pub mod AcceptedLaws
+pub mod CutLaws
+pub mod AnswerLaws
 pub mod OneBlock
 pub mod Determined

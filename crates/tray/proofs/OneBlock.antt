@@ -1,10 +1,12 @@
 -- One broken message costs one block, over recordings. Read `Theorem` first, beside
 -- `specs/OneBlock.antt`.
---     Accepting    accepted bytes before accepted bytes are accepted, and tell setup, then events
---     Printing     what an accepted recording prints
+--     Accepting    accepted bytes tell setup, then events
+--     Printing     what a run makes of an accepted recording
 --     Lines        outcomes that are the same print lines that are the same
+--     Ending       outcomes that are the same leave cards that are alike
 --     Theorem      the theorem
 pub mod Accepting
 pub mod Printing
 pub mod Lines
+pub mod Ending
 pub mod Theorem

@@ -7,4 +7,6 @@ pub mod Row
 pub mod Pieces
 pub mod Sound
 pub mod ByActions
+pub mod Accepted
+pub mod Answered
 pub mod OneBlock

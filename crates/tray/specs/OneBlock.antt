@@ -1,15 +1,14 @@
--- One broken message costs one block, over recordings: the bytes that a program is given, and the
--- lines that it prints. What is asked of the terminal and what is the same in its queue and memory
--- is in the terminal's `OneBlock`. Definitions only. Assumes nothing.
+-- One broken message costs one block, over recordings: bytes that a program is given, the lines that
+-- it prints, and the queue and the memory that it leaves. What is asked of the terminal, and which
+-- cells are excepted, is in the terminal's `OneBlock`. Definitions only. Assumes nothing.
 use mathlib.Core.Path.{_≡_}
 use mathlib.Core.Bool.{Bool, true, false}
 use mathlib.Core.List.{List, [], _∷_, _++_}
 use Prim.Native.Nat.{ℕ, _+_}
-use lib.ListN.{length, drop, replicate}
+use lib.ListN.{length}
 use Rattle.bus.specs.declared.kind.Kind.the-variants.{ModeStatus, ModeLast}
 use Rattle.bus.specs.Kind.{kindOf}
 use Rattle.bus.specs.Status.{withoutError}
-use Rattle.card.specs.Memory.{cardWords}
 use Rattle.queue.specs.Queue.{emptyQueue}
 use Rattle.message.specs.declared.state.OpenMessage.{OpenMessage}
 use Rattle.message.specs.declared.state.Message.{Message}
@@ -18,46 +17,24 @@ use Rattle.message.specs.declared.state.Word.{Word}
 use Rattle.terminal.specs.State.{Card, card, coreAtSetup}
 use Rattle.terminal.specs.Event.{Event, word, seen}
 use Rattle.terminal.specs.Machine.{step, run}
-use Rattle.terminal.specs.OneBlock.{stillBefore, SameAfter, ThatBlock, BrokenMessage}
-use Rattle.recording.specs.declared.Field.{Field}
-use Rattle.recording.specs.declared.Reading.the-variants.{Taken}
-use Rattle.recording.specs.Reading.{readAt}
+use Rattle.terminal.specs.OneBlock.{stillBefore, Alike, SameAfter, ThatBlock, BrokenMessage}
 use Rattle.lines.specs.Lines.{statusLine, endLine}
-use Rattle.tray.specs.Happening.{Happening, setup, event, happeningOf}
-use Rattle.tray.specs.Run.{counted, shownLine, printed}
+use Rattle.tray.specs.Happening.{Happening, setup, event}
+use Rattle.tray.specs.Run.{counted, shownLine, trayOver, whole, wholeFrom}
+use Rattle.tray.specs.Accepted.{Accepted}
 
--- ---- recordings
-
--- the reader takes these bytes, field by field to their end, and this is what the fields tell; the
--- flag says whether a setup has been read before
-pub data Accepted : Bool → List ℕ → List Happening → Type 0 where
-  the-end : {begun : Bool} → Accepted begun [] []
-  a-field : {begun : Bool} {bytes : List ℕ} {field : Field} {next : ℕ} {rest : List Happening}
-      → readAt bytes 0 begun ≡ Taken field next → Accepted true (drop next bytes) rest
-      → Accepted begun bytes (happeningOf bytes field ∷ rest)
+-- ---- what recordings tell
 
 -- fields that tell events
 unfoldable pub events : List Event → List Happening
 events [] = []
 events (told ∷ more) = event told ∷ events more
 
--- the card that setup and some events leave, over a memory of zeros
-unfoldable pub cardAfter : ℕ → ℕ → ℕ → List Event → Card
-cardAfter station table flags told =
-    run told (card (coreAtSetup station table flags) emptyQueue (replicate cardWords 0))
+-- events up to the end of a stretch: the earlier ones, a command, and the stretch
+abbrev pub upTo : List Event → Word → List Event → List Event
+upTo earlier heard stretch = earlier ++ word heard ∷ stretch
 
--- two recordings of whole fields: the same bytes before, a command, one stretch or the other, and
--- the same bytes after; what they tell is as the terminal's theorem asks
-pub record BrokenRecording (before command one two after : List ℕ) (station table flags : ℕ)
-    (earlier : List Event) (heard : Word) (told-one told-two later : List Event) : Type 0 where
-  pub before-accepted : Accepted false before (setup station table flags ∷ events earlier)
-  pub command-accepted : Accepted true command (event (word heard) ∷ [])
-  pub one-accepted : Accepted true one (events told-one)
-  pub two-accepted : Accepted true two (events told-two)
-  pub after-accepted : Accepted true after (events later)
-  pub broken : BrokenMessage (cardAfter station table flags earlier) heard told-one told-two later
-
--- ---- what is printed
+-- ---- lines
 
 -- the line of an event: that of a reply or of a queue read, or none
 abbrev pub lineOf : Event → Card → List ℕ
@@ -87,26 +64,54 @@ LaterLines before (told ∷ more) here there =
     × LaterLines (stillBefore before (step told here .opened)) more
     (step told here .card) (step told there .card)
 
--- a recording prints the lines of the fields up to the end of its stretch, those of the fields
--- after, and END with the number of all its fields
-abbrev pub Prints : List ℕ → ℕ → ℕ → ℕ → List Event → List Event → Type 0
-Prints bytes station table flags sooner later =
-    printed bytes
-    ≡ linesOf sooner (cardAfter station table flags [])
-    ++ (linesOf later (cardAfter station table flags sooner)
-    ++ endLine (counted (1 + length sooner + length later)))
+-- ---- runs of recordings, over any memory: the program's is all zeros
 
--- the claim: what each of them prints, and that lines, queue and memory are the same after
-pub record SameRecordings (before command one two after : List ℕ) (station table flags : ℕ)
-    (earlier : List Event) (heard : Word) (told-one told-two later : List Event) : Type 0 where
-  pub prints-one : Prints (before ++ (command ++ (one ++ after))) station table flags
-      (earlier ++ word heard ∷ told-one) later
-  pub prints-two : Prints (before ++ (command ++ (two ++ after))) station table flags
-      (earlier ++ word heard ∷ told-two) later
-  pub lines : LaterLines true later
-      (cardAfter station table flags (earlier ++ word heard ∷ told-one))
-      (cardAfter station table flags (earlier ++ word heard ∷ told-two))
-  pub held : SameAfter
-      (ThatBlock (cardAfter station table flags (earlier ++ word heard ∷ []) .core .message)) later
-      (cardAfter station table flags (earlier ++ word heard ∷ told-one))
-      (cardAfter station table flags (earlier ++ word heard ∷ told-two))
+module _ (ram : List ℕ) (station table flags : ℕ) where
+  -- the card that the setup and some events leave
+  unfoldable pub cardAfter : List Event → Card
+  cardAfter told = run told (card (coreAtSetup station table flags) emptyQueue ram)
+
+  -- what a run makes of the bytes. It prints the lines of the events up to the end of a stretch,
+  -- those of the events after it, and END with the number of fields; and it leaves the card that
+  -- all its events leave
+  abbrev pub RunsTo : List ℕ → List Event → List Event → Type 0
+  RunsTo bytes sooner later =
+      wholeFrom (trayOver ram) bytes
+      ≡ whole
+      (linesOf sooner (cardAfter [])
+      ++ (linesOf later (cardAfter sooner)
+      ++ endLine (counted (1 + length (sooner ++ later)))))
+      (record {
+        begun = true;
+        card = cardAfter (sooner ++ later);
+        fields = counted (1 + length (sooner ++ later));
+        offset = counted (length bytes);
+      })
+
+  -- the one spent block: that of the message that the command opened
+  abbrev pub SpentBlock : List Event → Word → ℕ → Type 0
+  SpentBlock earlier heard = ThatBlock (cardAfter (upTo earlier heard []) .core .message)
+
+  module _ (one two : List ℕ) (earlier : List Event) (heard : Word)
+      (told-one told-two later : List Event) where
+    -- all that is asked: the reader accepts both recordings; they tell the same setup and events, a
+    -- command, one stretch or the other, and then the same events; and what they tell is as the
+    -- terminal's theorem asks
+    pub record BrokenRecording : Type 0 where
+      pub one-accepted : Accepted false one
+          (setup station table flags ∷ events (upTo earlier heard told-one ++ later))
+      pub two-accepted : Accepted false two
+          (setup station table flags ∷ events (upTo earlier heard told-two ++ later))
+      pub broken : BrokenMessage (cardAfter earlier) heard told-one told-two later
+
+    -- the claim: what a run makes of each; that the lines after the stretch are the same, and queue
+    -- and memory after each later event; and so are the queue and the memory that the runs leave
+    pub record SameRecordings : Type 0 where
+      pub run-one : RunsTo one (upTo earlier heard told-one) later
+      pub run-two : RunsTo two (upTo earlier heard told-two) later
+      pub lines : LaterLines true later (cardAfter (upTo earlier heard told-one))
+          (cardAfter (upTo earlier heard told-two))
+      pub held : SameAfter (SpentBlock earlier heard) later
+          (cardAfter (upTo earlier heard told-one)) (cardAfter (upTo earlier heard told-two))
+      pub at-end : Alike (SpentBlock earlier heard)
+          (wholeFrom (trayOver ram) one .tray .card) (wholeFrom (trayOver ram) two .tray .card)

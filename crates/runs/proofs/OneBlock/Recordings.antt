@@ -4,7 +4,10 @@ use mathlib.Core.Path.{_≡_, refl}
 use mathlib.Core.Bool.{true, false}
 use mathlib.Core.List.{List, [], _∷_, _++_}
 use Prim.Native.Nat.{ℕ}
+use lib.ListN.{replicate}
+use Rattle.card.specs.Memory.{cardWords}
 use Rattle.terminal.specs.Event.{Event, hostWrite, word}
+use Rattle.terminal.specs.OneBlock.{Alike, ThatBlock}
 use Rattle.recording.specs.Field.{lengthFits, fieldAt}
 use Rattle.recording.specs.Reading.{readAt}
 use Rattle.lines.specs.Lines.{statusLine, queueLine, endLine}
@@ -21,16 +24,9 @@ use Rattle.tray.specs.Run.{
   wholeFrom,
   printed,
 }
-use Rattle.tray.specs.OneBlock.{
-  Accepted,
-  the-end,
-  a-field,
-  events,
-  cardAfter,
-  BrokenRecording,
-  SameRecordings,
-}
-use Rattle.tray.proofs.OneBlock.Theorem.{one-block-recordings}
+use Rattle.tray.specs.Accepted.{no-more, a-field, Accepted}
+use Rattle.tray.specs.OneBlock.{events, cardAfter, BrokenRecording, SameRecordings}
+use Rattle.tray.proofs.OneBlock.Theorem.{whole-accepted, one-block-recordings}
 
 -- ---- the bytes
 
@@ -72,6 +68,13 @@ after-bytes =
     ++ (wordBytes 0x06 0x2C 0x02 0xD0 ++ (silenceBytes 0xE0
     ++ (readBytes ++ readBytes))))))))
 
+-- the whole recordings
+abbrev sound-recording : List ℕ
+sound-recording = before-bytes ++ (command-bytes ++ (sound-bytes ++ after-bytes))
+
+abbrev unsound-recording : List ℕ
+unsound-recording = before-bytes ++ (command-bytes ++ (unsound-bytes ++ after-bytes))
+
 -- to unfold `bytes` is to unfold these, and what reads them
 unfoldable bytes : ℕ
 unfolding before-bytes wordBytes silenceBytes readBytes command-bytes sound-bytes unsound-bytes
@@ -80,49 +83,61 @@ bytes = 0
 
 -- ---- all that is asked holds
 
+-- the program's memory
+abbrev zeros : List ℕ
+zeros = replicate cardWords 0
+
 abbrev earlier : List Event
 earlier = hostWrite 0x0043 (0x4002 ∷ []) ∷ hostWrite 0x00BF (0x4003 ∷ []) ∷ []
 
 before-accepted : Accepted false before-bytes (setup 5 1 0 ∷ events earlier)
 unfolding bytes
-before-accepted = a-field refl (a-field refl (a-field refl the-end))
+before-accepted = a-field refl (a-field refl (a-field refl no-more))
 
 command-accepted : Accepted true command-bytes (event (word command) ∷ [])
 unfolding bytes
-command-accepted = a-field refl the-end
+command-accepted = a-field refl no-more
 
 sound-accepted : Accepted true sound-bytes (events sound)
 unfolding bytes
-sound-accepted = a-field refl (a-field refl (a-field refl the-end))
+sound-accepted = a-field refl (a-field refl (a-field refl no-more))
 
 unsound-accepted : Accepted true unsound-bytes (events unsound)
 unfolding bytes
-unsound-accepted = a-field refl (a-field refl (a-field refl the-end))
+unsound-accepted = a-field refl (a-field refl (a-field refl no-more))
 
 after-accepted : Accepted true after-bytes (events after)
 unfolding bytes
 after-accepted =
     a-field refl (a-field refl (a-field refl (a-field refl (a-field refl
-    (a-field refl (a-field refl (a-field refl (a-field refl (a-field refl the-end)))))))))
+    (a-field refl (a-field refl (a-field refl (a-field refl (a-field refl no-more)))))))))
 
-all-asked-holds : BrokenRecording before-bytes command-bytes sound-bytes unsound-bytes after-bytes
-    5 1 0 earlier command sound unsound after
+all-asked-holds : BrokenRecording zeros 5 1 0 sound-recording unsound-recording
+    earlier command sound unsound after
 unfolding runs met cardAfter
 all-asked-holds =
     record {
-      before-accepted = before-accepted;
-      command-accepted = command-accepted;
-      one-accepted = sound-accepted;
-      two-accepted = unsound-accepted;
-      after-accepted = after-accepted;
+      one-accepted =
+          whole-accepted 5 1 0 earlier command sound after
+          before-accepted command-accepted sound-accepted after-accepted;
+      two-accepted =
+          whole-accepted 5 1 0 earlier command unsound after
+          before-accepted command-accepted unsound-accepted after-accepted;
       broken = all-holds;
     }
 
-the-recordings-are-the-same : SameRecordings before-bytes command-bytes sound-bytes unsound-bytes
-    after-bytes 5 1 0 earlier command sound unsound after
+the-recordings-are-the-same : SameRecordings zeros 5 1 0 sound-recording unsound-recording
+    earlier command sound unsound after
 the-recordings-are-the-same =
-    one-block-recordings before-bytes command-bytes sound-bytes unsound-bytes after-bytes 5 1 0
-    earlier command sound unsound after all-asked-holds
+    one-block-recordings zeros 5 1 0 sound-recording unsound-recording earlier command sound
+    unsound after all-asked-holds
+
+-- queue and memory that the two runs leave, but for data and service cells of block 2
+the-same-is-left : Alike (λ block. block ≡ 2)
+    (wholeFrom trayAtStart sound-recording .tray .card)
+    (wholeFrom trayAtStart unsound-recording .tray .card)
+unfolding runs cardAfter ThatBlock trayAtStart
+the-same-is-left = the-recordings-are-the-same .at-end
 
 -- ---- what they print
 
@@ -133,8 +148,7 @@ unfolding bytes runs happened trayAtStart lastLine taking takingLine wholeOf who
 run = 0
 
 -- the reply to the message, and then what both print
-the-sound-recording-prints :
-    printed (before-bytes ++ (command-bytes ++ (sound-bytes ++ after-bytes)))
+the-sound-recording-prints : printed sound-recording
     ≡ statusLine 0x2800 []
     ++ (statusLine 0x2800 []
     ++ (statusLine 0x2800 []
@@ -146,8 +160,7 @@ unfolding run
 the-sound-recording-prints = refl
 
 -- a broken message gets no reply; message error shows in the first status alone
-the-unsound-recording-prints :
-    printed (before-bytes ++ (command-bytes ++ (unsound-bytes ++ after-bytes)))
+the-unsound-recording-prints : printed unsound-recording
     ≡ statusLine 0x2C00 []
     ++ (statusLine 0x2800 []
     ++ (statusLine 0x2800 []

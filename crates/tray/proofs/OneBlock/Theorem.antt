@@ -1,25 +1,35 @@
--- One broken message costs one block, over recordings: `one-block-recordings`. Assumes nothing.
+-- One broken message costs one block, over recordings: `one-block-recordings`. A recording is
+-- accepted where its parts are (`whole-accepted`). Assumes nothing.
 use mathlib.Core.Path.{_≡_, refl, sym, ap, subst, _∙_}
-use mathlib.Core.Bool.{true, false}
+use mathlib.Core.Bool.{Bool, true, false}
 use mathlib.Core.List.{List, [], _∷_, _++_, append-assoc}
-use Prim.Native.Nat.{ℕ}
+use Prim.Native.Nat.{ℕ, _+_}
+use lib.ListN.{length, replicate}
+use Rattle.card.specs.Memory.{cardWords}
 use Rattle.message.specs.declared.state.Word.{Word}
 use Rattle.terminal.specs.State.{Card}
 use Rattle.terminal.specs.Event.{Event, word}
-use Rattle.terminal.specs.Machine.{step, run}
-use Rattle.terminal.specs.OneBlock.{SameAfter, ThatBlock}
+use Rattle.terminal.specs.Machine.{run}
+use Rattle.terminal.specs.OneBlock.{Alike, SameAfter, Settled}
 use Rattle.terminal.proofs.OneBlock.Theorem.{one-block}
+use Rattle.lines.specs.Lines.{endLine}
 use Rattle.tray.specs.Happening.{Happening, setup, event}
-use Rattle.tray.specs.OneBlock.{Accepted, events, cardAfter, BrokenRecording, SameRecordings}
-use Rattle.tray.proofs.OneBlock.Accepting.{accepted-then, accepted-first-then}
-use Rattle.tray.proofs.OneBlock.Printing.{events-of-append, prints}
+use Rattle.tray.specs.Run.{trayAtStart, counted, Whole, printed}
+use Rattle.tray.specs.Accepted.{begunAfter, Accepted}
+use Rattle.tray.specs.OneBlock.{
+  events,
+  upTo,
+  linesOf,
+  cardAfter,
+  RunsTo,
+  SpentBlock,
+  BrokenRecording,
+  SameRecordings,
+}
+use Rattle.tray.proofs.AcceptedLaws.{begun-stays, accepted-then}
+use Rattle.tray.proofs.OneBlock.Printing.{events-of-append, run-of-append, runs-to}
 use Rattle.tray.proofs.OneBlock.Lines.{later-lines}
-
-run-of-append : (sooner later : List Event) (old : Card)
-    → run (sooner ++ later) old ≡ run later (run sooner old)
-unfolding run
-run-of-append [] later old = refl
-run-of-append (told ∷ sooner) later old = run-of-append sooner later (step told old .card)
+use Rattle.tray.proofs.OneBlock.Ending.{left-alike}
 
 -- ---- a whole recording
 
@@ -27,7 +37,7 @@ module _ (station table flags : ℕ) (earlier : List Event) (heard : Word)
     (stretch later : List Event) where
   -- what its parts tell, put together
   told-whole : events earlier ++ (event (word heard) ∷ (events stretch ++ events later))
-      ≡ events ((earlier ++ word heard ∷ stretch) ++ later)
+      ≡ events (upTo earlier heard stretch ++ later)
   unfolding events
   told-whole =
       ap (λ (rest : List Happening). events earlier ++ (event (word heard) ∷ rest))
@@ -41,48 +51,68 @@ module _ (station table flags : ℕ) (earlier : List Event) (heard : Word)
       → Accepted true command (event (word heard) ∷ [])
       → Accepted true bytes (events stretch) → Accepted true after (events later)
       → Accepted false (before ++ (command ++ (bytes ++ after)))
-      (setup station table flags ∷ events ((earlier ++ word heard ∷ stretch) ++ later))
+      (setup station table flags ∷ events (upTo earlier heard stretch ++ later))
+  unfolding begunAfter
   whole-accepted {before} {command} {bytes} {after} first next between last =
+      let behind : Accepted true (bytes ++ after) (events stretch ++ events later) =
+      accepted-then between
+      (subst (λ (flag : Bool). Accepted flag after (events later))
+      (sym (begun-stays (events stretch))) last) in
       subst
       (λ (told : List Happening). Accepted false (before ++ (command ++ (bytes ++ after)))
       (setup station table flags ∷ told))
       told-whole
-      (accepted-first-then _ _
-      (accepted-then _ _ (accepted-then _ _ last between) next) first)
+      (accepted-then first (accepted-then next behind))
 
 -- ---- the theorem
 
-module _ (before command one two after : List ℕ) (station table flags : ℕ)
-    (earlier : List Event) (heard : Word) (told-one told-two later : List Event) where
+module _ (ram : List ℕ) (station table flags : ℕ) (one two : List ℕ) (earlier : List Event)
+    (heard : Word) (told-one told-two later : List Event) where
   pub one-block-recordings :
-      BrokenRecording before command one two after station table flags earlier heard told-one
-      told-two later
-      → SameRecordings before command one two after station table flags earlier heard told-one
-      told-two later
+      BrokenRecording ram station table flags one two earlier heard told-one told-two later
+      → SameRecordings ram station table flags one two earlier heard told-one told-two later
   unfolding cardAfter run
   one-block-recordings recordings =
-      let start = cardAfter station table flags [] in
-      let met = cardAfter station table flags earlier in
+      let start = cardAfter ram station table flags [] in
+      let met = cardAfter ram station table flags earlier in
+      let broken = recordings .broken in
       let at-one = run-of-append earlier (word heard ∷ told-one) start in
       let at-two = run-of-append earlier (word heard ∷ told-two) start in
-      let at-command = run-of-append earlier (word heard ∷ []) start in
-      let held : SameAfter
-      (ThatBlock (run (earlier ++ word heard ∷ []) start .core .message)) later
-      (run (earlier ++ word heard ∷ told-one) start)
-      (run (earlier ++ word heard ∷ told-two) start) =
-      rw (at-one, at-two, at-command)
-      (one-block met heard told-one told-two later (recordings .broken)) in
+      let here : Card = run (upTo earlier heard told-one) start in
+      let there : Card = run (upTo earlier heard told-two) start in
+      let Spent : ℕ → Type 0 = SpentBlock ram station table flags earlier heard in
+      let held : SameAfter Spent later here there =
+      rw (at-one, at-two, run-of-append earlier (word heard ∷ []) start)
+      (one-block met heard told-one told-two later broken) in
+      let settled : Settled here there later = rw (at-one, at-two) (broken .settled) in
+      let run-one =
+      runs-to ram station table flags one (upTo earlier heard told-one) later
+      (recordings .one-accepted) in
+      let run-two =
+      runs-to ram station table flags two (upTo earlier heard told-two) later
+      (recordings .two-accepted) in
+      let at-end : Alike Spent (run (upTo earlier heard told-one ++ later) start)
+      (run (upTo earlier heard told-two ++ later) start) =
+      rw (
+        run-of-append (upTo earlier heard told-one) later start,
+        run-of-append (upTo earlier heard told-two) later start,
+      ) (left-alike Spent later here there settled held) in
       record {
-        prints-one =
-            prints station table flags (earlier ++ word heard ∷ told-one) later
-            (whole-accepted station table flags earlier heard told-one later
-            (recordings .before-accepted) (recordings .command-accepted)
-            (recordings .one-accepted) (recordings .after-accepted));
-        prints-two =
-            prints station table flags (earlier ++ word heard ∷ told-two) later
-            (whole-accepted station table flags earlier heard told-two later
-            (recordings .before-accepted) (recordings .command-accepted)
-            (recordings .two-accepted) (recordings .after-accepted));
+        run-one = run-one;
+        run-two = run-two;
         lines = later-lines _ true later _ _ (held .later);
         held = held;
+        at-end = rw (run-one, run-two) at-end;
       }
+
+-- ---- over memory of zeros a run prints what the program prints
+
+pub printed-of-zeros : (station table flags : ℕ) (bytes : List ℕ) (sooner later : List Event)
+    → RunsTo (replicate cardWords 0) station table flags bytes sooner later
+    → printed bytes
+    ≡ linesOf sooner (cardAfter (replicate cardWords 0) station table flags [])
+    ++ (linesOf later (cardAfter (replicate cardWords 0) station table flags sooner)
+    ++ endLine (counted (1 + length (sooner ++ later))))
+unfolding printed trayAtStart
+printed-of-zeros station table flags bytes sooner later runs =
+    ap (λ (all : Whole). all .text) runs

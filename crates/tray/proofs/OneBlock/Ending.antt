@@ -1,0 +1,31 @@
+-- Where the outcome of each later event is the same, what is left at the end is alike: `left-alike`.
+-- Assumes nothing.
+use mathlib.Core.Bool.{Bool}
+use mathlib.Core.List.{List, [], _∷_}
+use Prim.Native.Nat.{ℕ}
+use Rattle.terminal.specs.State.{Card}
+use Rattle.terminal.specs.Event.{Event, word}
+use Rattle.terminal.specs.Machine.{step, run}
+use Rattle.terminal.specs.OneBlock.{Alike, Later, SameAfter, Settled, closed, superseded}
+
+module _ (Spent : ℕ → Type 0) where
+  -- of the cards after the last event, if not after none
+  alike-after : (before : Bool) (later : List Event) (here there : Card)
+      → Later Spent before later here there → Alike Spent here there
+      → Alike Spent (run later here) (run later there)
+  unfolding Later run
+  alike-after before [] here there same-later alike = alike
+  alike-after before (told ∷ later) here there same-later alike =
+      alike-after _ later (step told here .card) (step told there .card) (same-later .1)
+      (same-later .0 .cards)
+
+  -- after none both messages have closed
+  pub left-alike : (later : List Event) (here there : Card)
+      → Settled here there later → SameAfter Spent later here there
+      → Alike Spent (run later here) (run later there)
+  unfolding Later run
+  left-alike later here there (closed idle idle′) same-after =
+      alike-after _ later here there (same-after .later) (same-after .at-once idle idle′)
+  left-alike _ here there (superseded {after = later} command opens loose) same-after =
+      alike-after _ later (step (word command) here .card) (step (word command) there .card)
+      (same-after .later .1) (same-after .later .0 .cards)
