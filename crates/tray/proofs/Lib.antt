@@ -18,6 +18,7 @@
 --     ByActions     a run is what the library's actions make
 --     AcceptedLaws  what bytes tell, alone and one behind the other
 --     CutLaws       accepted bytes can be cut at the end of every field
+--     OnwardLaws    a run goes on behind the fields that are taken
 --     AnswerLaws    every list of bytes gets an answer and an end
 --     OneBlock      one broken message costs one block, over recordings
 --     Determined    each public contract allows one outcome alone
@@ -40,6 +41,7 @@ pub mod RefusedAlike
 pub mod ByActions
 pub mod AcceptedLaws
 pub mod CutLaws
+pub mod OnwardLaws
 pub mod AnswerLaws
 pub mod OneBlock
 pub mod Determined

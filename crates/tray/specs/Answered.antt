@@ -2,7 +2,7 @@
 -- it is at the end of the bytes or refuses a field; the lines of the fields are printed, and one
 -- last line. Definitions only; proved in `proofs/AnswerLaws`. Assumes nothing.
 use mathlib.Core.Path.{_≡_}
-use mathlib.Core.Bool.{Bool, true}
+use mathlib.Core.Bool.{true}
 use mathlib.Core.List.{List, [], _∷_, _++_}
 use Prim.Native.Nat.{ℕ, _+_}
 use lib.ListN.{length}
@@ -44,8 +44,9 @@ pub data LastLine (after : Tray) : Reading → List ℕ → Type 0 where
   a-refusal : {number place : ℕ}
       → LastLine after (Refused number place) (refusalLine number (after .offset))
 
--- the claim: the bytes are those of some fields, and those that are left; the run prints the lines
--- of the fields and the last line, and leaves what the fields leave
+-- the claim of `answer-and-end`: the bytes are those of the fields that the reader takes, and those
+-- that are left, where it takes none; the run prints the lines of the fields and the last line, and
+-- leaves what the fields leave
 pub record Answered (start : Tray) (bytes : List ℕ) : Type 0 where
   pub front : List ℕ
   pub left : List ℕ
@@ -58,7 +59,7 @@ pub record Answered (start : Tray) (bytes : List ℕ) : Type 0 where
   pub run : wholeFrom start bytes
       ≡ whole (toldLines told (start .card) ++ line) (trayAfter start (length front) told)
 
--- two answers are the same
+-- the claim of `answered-once`: two answers to the same bytes are the same
 pub record SameAnswer {start : Tray} {bytes : List ℕ} (one other : Answered start bytes) : Type 0
   where
     pub told : one .told ≡ other .told

@@ -104,14 +104,17 @@ module _ (ram : List ℕ) (station table flags : ℕ) where
           (setup station table flags ∷ events (upTo earlier heard told-two ++ later))
       pub broken : BrokenMessage (cardAfter earlier) heard told-one told-two later
 
-    -- the claim: what a run makes of each; that the lines after the stretch are the same, and queue
-    -- and memory after each later event; and so are the queue and the memory that the runs leave
+    -- the claim
     pub record SameRecordings : Type 0 where
+      -- what a run makes of each
       pub run-one : RunsTo one (upTo earlier heard told-one) later
       pub run-two : RunsTo two (upTo earlier heard told-two) later
-      pub lines : LaterLines true later (cardAfter (upTo earlier heard told-one))
-          (cardAfter (upTo earlier heard told-two))
+      -- the lines of the later events are the same
+      pub lines : LaterLines true later
+          (cardAfter (upTo earlier heard told-one)) (cardAfter (upTo earlier heard told-two))
+      -- so are queue and memory after each of them, but for the spent block's cells
       pub held : SameAfter (SpentBlock earlier heard) later
           (cardAfter (upTo earlier heard told-one)) (cardAfter (upTo earlier heard told-two))
+      -- .. and as the two runs leave them
       pub at-end : Alike (SpentBlock earlier heard)
           (wholeFrom (trayOver ram) one .tray .card) (wholeFrom (trayOver ram) two .tray .card)

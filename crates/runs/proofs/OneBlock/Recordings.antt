@@ -4,7 +4,7 @@ use mathlib.Core.Path.{_≡_, refl}
 use mathlib.Core.Bool.{true, false}
 use mathlib.Core.List.{List, [], _∷_, _++_}
 use Prim.Native.Nat.{ℕ}
-use lib.ListN.{replicate}
+use lib.ListN.{getD, replicate}
 use Rattle.card.specs.Memory.{cardWords}
 use Rattle.terminal.specs.Event.{Event, hostWrite, word}
 use Rattle.terminal.specs.OneBlock.{Alike, ThatBlock}
@@ -132,13 +132,6 @@ the-recordings-are-the-same =
     one-block-recordings zeros 5 1 0 sound-recording unsound-recording earlier command sound
     unsound after all-asked-holds
 
--- queue and memory that the two runs leave, but for data and service cells of block 2
-the-same-is-left : Alike (λ block. block ≡ 2)
-    (wholeFrom trayAtStart sound-recording .tray .card)
-    (wholeFrom trayAtStart unsound-recording .tray .card)
-unfolding runs cardAfter ThatBlock trayAtStart
-the-same-is-left = the-recordings-are-the-same .at-end
-
 -- ---- what they print
 
 -- to unfold `run` is to unfold the whole of a tray run
@@ -169,3 +162,22 @@ the-unsound-recording-prints : printed unsound-recording
     ++ endLine 17))))
 unfolding run
 the-unsound-recording-prints = refl
+
+-- ---- what they leave
+
+-- the same queue and memory, but for data and service cells of block 2 ..
+the-same-is-left : Alike (λ block. block ≡ 2)
+    (wholeFrom trayAtStart sound-recording .tray .card)
+    (wholeFrom trayAtStart unsound-recording .tray .card)
+unfolding runs cardAfter ThatBlock trayAtStart
+the-same-is-left = the-recordings-are-the-same .at-end
+
+-- .. of which the state word does differ
+the-sound-state-word : getD (wholeFrom trayAtStart sound-recording .tray .card .ram) 186 0 ≡ 0x0002
+unfolding run
+the-sound-state-word = refl
+
+the-unsound-state-word :
+    getD (wholeFrom trayAtStart unsound-recording .tray .card .ram) 186 0 ≡ 0x4101
+unfolding run
+the-unsound-state-word = refl

@@ -15,7 +15,7 @@ use Rattle.tray.specs.Run.{trayOver, counted, shownLine, whole}
 use Rattle.tray.specs.Accepted.{Accepted}
 use Rattle.tray.specs.Answered.{toldLines, toldCard, trayAfter}
 use Rattle.tray.specs.OneBlock.{events, lineOf, linesOf, cardAfter, RunsTo}
-use Rattle.tray.proofs.AnswerLaws.{accepted-run}
+use Rattle.tray.proofs.OnwardLaws.{accepted-run}
 
 -- ---- fields that tell events
 
