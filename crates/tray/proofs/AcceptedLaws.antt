@@ -130,16 +130,16 @@ same-happening front back begun (HostWrite address first count) next is =
 same-happening front back begun (Table table) next is = refl
 same-happening front back begun (Flags flags) next is = refl
 
--- fields that are taken behind accepted bytes
-takes-then : {begun : Bool} {front back left : List ℕ} {first second : List Happening}
+-- accepted bytes, and then fields that are taken of the bytes behind
+pub accepted-then : {begun : Bool} {front back left : List ℕ} {first second : List Happening}
     → Accepted begun front first → TakesFields (begunAfter begun first) back second left
     → TakesFields begun (front ++ back) (first ++ second) left
 unfolding begunAfter
-takes-then no-more behind = behind
-takes-then {begun} {front} {back} {left} {second = second}
+accepted-then no-more behind = behind
+accepted-then {begun} {front} {back} {left} {second = second}
     (a-field {field = field} {next = next} {rest = rest} is then) behind =
     let inside = taken-within front 0 begun is .ends-inside in
-    let all = takes-then then
+    let all = accepted-then then
     (subst (λ (flag : Bool). TakesFields flag back second left) (sym (begun-stays rest)) behind) in
     subst
     (λ (told : Happening). TakesFields begun (front ++ back) (told ∷ (rest ++ second)) left)
@@ -147,11 +147,6 @@ takes-then {begun} {front} {back} {left} {second = second}
     (a-field (more-bytes-same-field front back 0 begun is)
     (subst (λ (bytes : List ℕ). TakesFields true bytes (rest ++ second) left)
     (sym (drop-append-le next front back inside)) all))
-
-pub accepted-then : {begun : Bool} {front back : List ℕ} {first second : List Happening}
-    → Accepted begun front first → Accepted (begunAfter begun first) back second
-    → Accepted begun (front ++ back) (first ++ second)
-accepted-then = takes-then
 
 -- accepted bytes that begin with accepted bytes begin by telling what these tell
 pub same-beginning : {begun : Bool} (front back : List ℕ) {first told : List Happening}
@@ -161,6 +156,6 @@ unfolding readAt isTaken
 same-beginning {begun} front back {first} beginning all =
     let taken : TakesFields begun (front ++ back) first back =
     subst (λ (told : List Happening). TakesFields begun (front ++ back) told back)
-    (append-nil first) (takes-then beginning no-more) in
+    (append-nil first) (accepted-then beginning no-more) in
     let behind = taken-behind taken all refl in
     record { second = behind .second; tells = behind .tells; back-accepted = behind .takes }

@@ -71,16 +71,19 @@ module _ (ram : List ℕ) (station table flags : ℕ) where
   unfoldable pub cardAfter : List Event → Card
   cardAfter told = run told (card (coreAtSetup station table flags) emptyQueue ram)
 
-  -- what a run makes of the bytes. It prints the lines of the events up to the end of a stretch,
-  -- those of the events after it, and END with the number of fields; and it leaves the card that
-  -- all its events leave
+  -- the lines of events up to the end of a stretch, those of the events after it, and END with the
+  -- number of fields: the setup, and one for each event
+  abbrev pub textOf : List Event → List Event → List ℕ
+  textOf sooner later =
+      linesOf sooner (cardAfter [])
+      ++ (linesOf later (cardAfter sooner)
+      ++ endLine (counted (1 + length (sooner ++ later))))
+
+  -- a run of the bytes prints that, and leaves the card that all these events leave
   abbrev pub RunsTo : List ℕ → List Event → List Event → Type 0
   RunsTo bytes sooner later =
       wholeFrom (trayOver ram) bytes
-      ≡ whole
-      (linesOf sooner (cardAfter [])
-      ++ (linesOf later (cardAfter sooner)
-      ++ endLine (counted (1 + length (sooner ++ later)))))
+      ≡ whole (textOf sooner later)
       (record {
         begun = true;
         card = cardAfter (sooner ++ later);

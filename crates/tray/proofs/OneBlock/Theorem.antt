@@ -3,8 +3,8 @@
 use mathlib.Core.Path.{_≡_, refl, sym, ap, subst, _∙_}
 use mathlib.Core.Bool.{Bool, true, false}
 use mathlib.Core.List.{List, [], _∷_, _++_, append-assoc}
-use Prim.Native.Nat.{ℕ, _+_}
-use lib.ListN.{length, replicate}
+use Prim.Native.Nat.{ℕ}
+use lib.ListN.{replicate}
 use Rattle.card.specs.Memory.{cardWords}
 use Rattle.message.specs.declared.state.Word.{Word}
 use Rattle.terminal.specs.State.{Card}
@@ -12,15 +12,14 @@ use Rattle.terminal.specs.Event.{Event, word}
 use Rattle.terminal.specs.Machine.{run}
 use Rattle.terminal.specs.OneBlock.{Alike, SameAfter, Settled}
 use Rattle.terminal.proofs.OneBlock.Theorem.{one-block}
-use Rattle.lines.specs.Lines.{endLine}
 use Rattle.tray.specs.Happening.{Happening, setup, event}
-use Rattle.tray.specs.Run.{trayAtStart, counted, Whole, printed}
+use Rattle.tray.specs.Run.{trayAtStart, Whole, printed}
 use Rattle.tray.specs.Accepted.{begunAfter, Accepted}
 use Rattle.tray.specs.OneBlock.{
   events,
   upTo,
-  linesOf,
   cardAfter,
+  textOf,
   RunsTo,
   SpentBlock,
   BrokenRecording,
@@ -105,14 +104,11 @@ module _ (ram : List ℕ) (station table flags : ℕ) (one two : List ℕ) (earl
         at-end = rw (run-one, run-two) at-end;
       }
 
--- ---- over memory of zeros a run prints what the program prints
+-- ---- the program's case: RAM starts zero
 
 pub printed-of-zeros : (station table flags : ℕ) (bytes : List ℕ) (sooner later : List Event)
     → RunsTo (replicate cardWords 0) station table flags bytes sooner later
-    → printed bytes
-    ≡ linesOf sooner (cardAfter (replicate cardWords 0) station table flags [])
-    ++ (linesOf later (cardAfter (replicate cardWords 0) station table flags sooner)
-    ++ endLine (counted (1 + length (sooner ++ later))))
+    → printed bytes ≡ textOf (replicate cardWords 0) station table flags sooner later
 unfolding printed trayAtStart
 printed-of-zeros station table flags bytes sooner later runs =
     ap (λ (all : Whole). all .text) runs
