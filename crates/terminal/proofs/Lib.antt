@@ -10,7 +10,6 @@
 --     FitSilence    a silence keeps the card fit
 --     FitLaws       a fit state stays fit: setup, one event, and a run
 --     NoTerminal    what a refused setup returns is refused by every action
---     MemoryLength  no event makes card memory longer or shorter
 --     OneBlock      one broken message costs one block
 --     StoreLaws     where rule 8 stores a word
 --     StepFrame     what an event leaves alone: every cell that it may not write
@@ -29,7 +28,6 @@ pub mod FitWord
 pub mod FitSilence
 pub mod FitLaws
 pub mod NoTerminal
-pub mod MemoryLength
 pub mod OneBlock
 pub mod StoreLaws
 pub mod StepFrame

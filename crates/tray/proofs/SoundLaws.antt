@@ -19,7 +19,7 @@ use Rattle.terminal.specs.Event.{
 }
 use Rattle.terminal.proofs.FitParts.{FitCard, fit-card-parts, fit-card-whole}
 use Rattle.terminal.proofs.FitLaws.{fit-at-setup, FitEvent, fit-stays-fit}
-use Rattle.terminal.proofs.MemoryLength.{step-keeps-length}
+use Rattle.terminal.proofs.StepFrame.{step-writes-only}
 use Rattle.recording.specs.declared.Field.{Field}
 use Rattle.recording.specs.declared.Field.the-variants.{
   Setup,
@@ -58,7 +58,7 @@ happening-keeps-length : (told : Happening) (old : Card)
     → length (happened told old .card .ram) ≡ length (old .ram)
 unfolding happened
 happening-keeps-length (setup station table flags) old = refl
-happening-keeps-length (event told) old = step-keeps-length told old
+happening-keeps-length (event told) old = step-writes-only told old .same-length
 
 -- a setup makes a fit terminal, and all else keeps it fit
 happening-is-fit : (bytes : List ℕ) (field : Field) (place next : ℕ) (old : Card)
