@@ -21,7 +21,7 @@ use Rattle.terminal.specs.OneBlock.{stillBefore, Alike, SameAfter, ThatBlock, B
 use Rattle.lines.specs.Lines.{statusLine, endLine}
 use Rattle.tray.specs.Happening.{Happening, setup, event}
 use Rattle.tray.specs.Run.{counted, shownLine, trayOver, whole, wholeFrom}
-use Rattle.tray.specs.Accepted.{Accepted}
+use Rattle.tray.specs.Accepted.{Accepted, Cut}
 
 -- ---- what recordings tell
 
@@ -121,3 +121,13 @@ module _ (ram : List ℕ) (station table flags : ℕ) where
       -- .. and as the two runs leave them
       pub at-end : Alike (SpentBlock earlier heard)
           (wholeFrom (trayOver ram) one .tray .card) (wholeFrom (trayOver ram) two .tray .card)
+
+  -- the same at the end of a later field: both recordings are cut there, and the claim is made of
+  -- the parts before
+  pub record SameUpTo (one two : List ℕ) (earlier : List Event) (heard : Word)
+      (told-one told-two now rest : List Event) : Type 0 where
+    pub cut-one : Cut false one
+        (setup station table flags ∷ events (upTo earlier heard told-one ++ now)) (events rest)
+    pub cut-two : Cut false two
+        (setup station table flags ∷ events (upTo earlier heard told-two ++ now)) (events rest)
+    pub same : SameRecordings (cut-one .front) (cut-two .front) earlier heard told-one told-two now

@@ -11,7 +11,7 @@ use Rattle.terminal.specs.Event.{Event}
 use Rattle.terminal.specs.Machine.{step, run}
 use Rattle.lines.specs.Lines.{endLine}
 use Rattle.tray.specs.Happening.{Happening, setup, event, happened}
-use Rattle.tray.specs.Run.{trayOver, counted, shownLine, whole}
+use Rattle.tray.specs.Run.{trayOver, counted, shownLine}
 use Rattle.tray.specs.Accepted.{Accepted}
 use Rattle.tray.specs.Answered.{toldLines, toldCard, trayAfter}
 use Rattle.tray.specs.OneBlock.{events, lineOf, linesOf, cardAfter, RunsTo}
