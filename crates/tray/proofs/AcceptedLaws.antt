@@ -1,6 +1,6 @@
--- The laws of `specs/Accepted.antt`. Bytes tell one thing alone (`takes-once`, `accepted-once`), and
--- bytes that begin alike, up to the end of a field, begin by telling the same (`same-beginning`).
--- Accepted bytes before accepted bytes are accepted (`accepted-then`). Assumes nothing.
+-- The laws of `specs/Accepted.antt`. Bytes tell one thing alone (`takes-once`, `accepted-once`);
+-- bytes that begin alike, up to the end of a field, begin by telling the same (`same-beginning`);
+-- accepted bytes before accepted bytes are accepted (`accepted-then`). Assumes nothing.
 use mathlib.Core.Path.{_≡_, refl, sym, ap, subst, _∙_}
 use mathlib.Core.Bool.{Bool, true, false, true≢false}
 use mathlib.Core.List.{List, [], _∷_, _++_, append-nil}

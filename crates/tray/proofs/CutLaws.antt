@@ -77,7 +77,8 @@ pub taken-accepted : {begun : Bool} {bytes left : List ℕ} {told : List Happeni
     → TakesFields begun bytes told left → Front begun bytes told left
 unfolding begunAfter
 taken-accepted no-more = record { front = []; parts = refl; accepted = no-more }
-taken-accepted {begun} {bytes} {left} (a-field {field = field} {next = next} {rest = rest} is then) =
+taken-accepted {begun} {bytes} {left}
+    (a-field {field = field} {next = next} {rest = rest} is then) =
     let behind = taken-accepted then in
     let own : List ℕ = take next bytes in
     let long : length own ≡ next =

@@ -35,8 +35,8 @@ pub record Cut (begun : Bool) (bytes : List ℕ) (first second : List Happening)
   pub front-accepted : Accepted begun front first
   pub back-accepted : Accepted (begunAfter begun first) back second
 
--- the claim of `same-beginning`: what is told begins with `first`, and the rest of it is told by the
--- bytes behind
+-- the claim of `same-beginning`: what is told begins with `first`, and the rest of it is told by
+-- the bytes behind
 pub record Continues (begun : Bool) (back : List ℕ) (first told : List Happening) : Type 0 where
   pub second : List Happening
   pub tells : told ≡ first ++ second

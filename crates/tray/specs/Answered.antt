@@ -37,8 +37,8 @@ trayAfter start size (told ∷ rest) =
       offset = counted (start .offset + size);
     }
 
--- the last line, by what the reader finds there: at the end END, with the number of fields taken; at
--- a field that it refuses the number of the refusal, with the offset of that field
+-- the last line, by what the reader finds there: at the end END, with the number of fields taken;
+-- at a field that it refuses the number of the refusal, with the offset of that field
 pub data LastLine (after : Tray) : Reading → List ℕ → Type 0 where
   the-end : LastLine after End (endLine (after .fields))
   a-refusal : {number place : ℕ}

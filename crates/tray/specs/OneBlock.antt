@@ -1,6 +1,6 @@
--- One broken message costs one block, over recordings: bytes that a program is given, the lines that
--- it prints, and the queue and the memory that it leaves. What is asked of the terminal, and which
--- cells are excepted, is in the terminal's `OneBlock`. Definitions only. Assumes nothing.
+-- One broken message costs one block, over recordings: bytes that a program is given, the lines
+-- that it prints, and the queue and the memory that it leaves. What is asked of the terminal, and
+-- which cells are excepted, is in the terminal's `OneBlock`. Definitions only. Assumes nothing.
 use mathlib.Core.Path.{_≡_}
 use mathlib.Core.Bool.{Bool, true, false}
 use mathlib.Core.List.{List, [], _∷_, _++_}

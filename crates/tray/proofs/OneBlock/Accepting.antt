@@ -1,5 +1,5 @@
--- What accepted bytes tell: behind a setup events alone (`rest-are-events`), and a recording a setup
--- first (`first-is-setup`). Assumes nothing.
+-- What accepted bytes tell: behind a setup events alone (`rest-are-events`), and a recording a
+-- setup first (`first-is-setup`). Assumes nothing.
 use mathlib.Core.Path.{_≡_, refl, sym, ap, _∙_}
 use mathlib.Core.Bool.{true, false, true≢false}
 use mathlib.Core.List.{List, [], _∷_}

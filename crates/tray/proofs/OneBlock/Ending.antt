@@ -1,4 +1,4 @@
--- Where the outcome of each later event is the same, what is left at the end is alike: `left-alike`.
+-- Where the outcome of each later event is the same, the cards at the end are alike: `left-alike`.
 -- Assumes nothing.
 use mathlib.Core.Bool.{Bool}
 use mathlib.Core.List.{List, [], _∷_}
@@ -9,7 +9,7 @@ use Rattle.terminal.specs.Machine.{step, run}
 use Rattle.terminal.specs.OneBlock.{Alike, Later, SameAfter, Settled, closed, superseded}
 
 module _ (Spent : ℕ → Type 0) where
-  -- of the cards after the last event, if not after none
+  -- cards that are alike before the later events are alike after them
   alike-after : (before : Bool) (later : List Event) (here there : Card)
       → Later Spent before later here there → Alike Spent here there
       → Alike Spent (run later here) (run later there)
@@ -19,7 +19,8 @@ module _ (Spent : ℕ → Type 0) where
       alike-after _ later (step told here .card) (step told there .card) (same-later .1)
       (same-later .0 .cards)
 
-  -- after none both messages have closed
+  -- before them they are where both messages have closed; else there is a later event, and after
+  -- the first of them they are
   pub left-alike : (later : List Event) (here there : Card)
       → Settled here there later → SameAfter Spent later here there
       → Alike Spent (run later here) (run later there)
