@@ -14,6 +14,7 @@
 --     StoreLaws     where rule 8 stores a word
 --     StepFrame     what an event leaves alone: every cell that it may not write
 --     OtherCells    .. and so the other cells of a message's block, and other blocks
+--     ClosesLaws    an open message closes, is dropped, or stays open as it was opened
 --     ReplyLaws     the words that a reply sends are those in memory at the silence
 --     ChainLaws     a closing takes its chain on, and the next opening takes the block named
 --     Determined    each public contract allows one outcome alone
@@ -32,6 +33,7 @@ pub mod OneBlock
 pub mod StoreLaws
 pub mod StepFrame
 pub mod OtherCells
+pub mod ClosesLaws
 pub mod ReplyLaws
 pub mod ChainLaws
 pub mod Determined

@@ -1,4 +1,5 @@
--- Which events close the open message. Definitions only. Assumes nothing.
+-- Which events close the open message, and what becomes of it otherwise. Definitions only. Assumes
+-- nothing.
 use mathlib.Core.Path.{_≡_}
 use mathlib.Core.Bool.{Bool, true}
 use Prim.Native.Nat.{ℕ}
@@ -14,6 +15,7 @@ use Rattle.message.specs.Words.{onWord}
 use Rattle.message.specs.Silence.{onSilence}
 use Rattle.terminal.specs.State.{Card}
 use Rattle.terminal.specs.Event.{Event, word, silence}
+use Rattle.terminal.specs.Machine.{step}
 
 -- the message is open on the card, and has a block
 pub record OpenWithBlock (old : Card) (message : OpenMessage) : Type 0 where
@@ -40,3 +42,22 @@ pub data Closes (old : Card) (message : OpenMessage) : Event → Type 0 where
       → Closes old message (silence line time)
   by-sound-end : {line : Bool} {time : ℕ}
       → silenceJudged message line ≡ silence-acts.End → Closes old message (silence line time)
+
+-- what is fixed at the opening
+pub record SameOpening (message later : OpenMessage) : Type 0 where
+  pub command : later .command ≡ message .command
+  pub line : later .line ≡ message .line
+  pub block : later .block ≡ message .block
+  pub home : later .home ≡ message .home
+  pub busy : later .busy ≡ message .busy
+  pub queued : later .queued ≡ message .queued
+  pub opened : later .opened ≡ message .opened
+
+-- what becomes of the open message: it closes, or is dropped, or stays open as it was opened
+pub data Becomes (old : Card) (message : OpenMessage) : Event → Type 0 where
+  closed : {event : Event} → Closes old message event → Becomes old message event
+  dropped : {heard : Word}
+      → wordJudged old message heard ≡ word-acts.Drop → Becomes old message (word heard)
+  stays : {event : Event} {later : OpenMessage}
+      → step event old .card .core .message ≡ Open later → SameOpening message later
+      → Becomes old message event

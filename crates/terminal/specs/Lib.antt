@@ -9,7 +9,7 @@
 --     SilenceStep    what silence decides is done
 --     Deed           acts that do alike, in one, as the code does them
 --     Machine        one step for each event, and a run
---     Closes         which events close the open message
+--     Closes         which events close the open message, and what else becomes of it
 --     Written        which cells an event may write
 --     Chain          the chain rule: what a closing leaves, and what the next opening takes
 --     OneBlock       one broken message costs one block: what that says of two runs
