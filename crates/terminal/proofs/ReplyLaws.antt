@@ -1,13 +1,14 @@
 -- The words that a reply sends are those in memory at the silence, though they are read after the
--- closing: `words-of-the-silence`, and of the public action `words-of-the-silence-action`. For
--- every card, fit or not, over memory of any length. Assumes nothing.
+-- closing: cell by cell `sent-cells-stay`, a reply's values `words-of-the-silence`, and of the
+-- public action `words-of-the-silence-action`. For every card, fit or not, over memory of any
+-- length. Assumes nothing.
 use mathlib.Core.Path.{_≡_, refl, sym, ap, subst, _∙_}
 use mathlib.Core.Bool.{Bool, true, false, cond, not, _&&_}
 use mathlib.Core.List.{List, _∷_}
 use Prim.Native.Nat.{ℕ, _+_, _≤_, _<_}
 use native.Mathlib.Omega.{arith}
 use lib.Dec.{eqb, leb}
-use lib.ListN.{length, getD, take, drop, length-take, length-drop}
+use lib.ListN.{length, take, drop, length-take, length-drop}
 use lib.Seq.{ext-getD, getD-take, getD-drop}
 use Rattle.bus.specs.declared.kind.Kind.{Kind}
 use Rattle.bus.specs.declared.kind.Kind.the-variants.{
@@ -23,7 +24,7 @@ use Rattle.bus.specs.declared.kind.Kind.the-variants.{
 }
 use Rattle.bus.specs.Command.{modeCodeOf}
 use Rattle.bus.specs.Kind.{kindOf}
-use Rattle.card.specs.Memory.{wordAddress}
+use Rattle.card.specs.Memory.{wordAddress, cellAt}
 use Rattle.card.specs.Sent.{sentPart}
 use Rattle.message.specs.declared.judge.SilenceAct.{SilenceAct}
 use Rattle.message.specs.declared.judge.SilenceAct.the-variants.{Ignore, AwaitStatus, Fault, End}
@@ -59,10 +60,9 @@ use Rattle.terminal.proofs.StepFrame.{silence-step, step-writes-only}
 
 -- the same words in the cells make the same part
 same-sent : (ram other : List ℕ) (block count : ℕ) → length ram ≡ length other
-    → ((cell : ℕ) → cell < count
-    → getD ram (wordAddress block cell) 0 ≡ getD other (wordAddress block cell) 0)
+    → ((cell : ℕ) → cell < count → cellAt ram block cell ≡ cellAt other block cell)
     → sentPart ram block count ≡ sentPart other block count
-unfolding sentPart
+unfolding sentPart cellAt
 same-sent ram other block count long cells =
     let start = wordAddress block 0 in
     let part : take count (drop start ram) ≡ take count (drop start other) =
@@ -157,11 +157,11 @@ module _ (line : Bool) (time : ℕ) (old : Card) (status block count : ℕ)
       (high-done message time old (silenceJudged message line)))
 
   -- the closing writes none of the cells that are sent
-  sent-cell-stays : (cell address : ℕ) → cell < count → address ≡ wordAddress block cell
+  sent-cell-unwritten : (cell address : ℕ) → cell < count → address ≡ wordAddress block cell
       → MayWrite old (silence line time) address → ⊥
-  sent-cell-stays cell address below at (service-cell with-block closes from to is) =
+  sent-cell-unwritten cell address below at (service-cell with-block closes from to is) =
       omega (arith, sent-at-most (silence line time) old status block count replied)
-  sent-cell-stays cell address below at
+  sent-cell-unwritten cell address below at
       (table-cell {message = message} with-block closes stays is) =
       omega (
         arith,
@@ -170,20 +170,27 @@ module _ (line : Bool) (time : ℕ) (old : Card) (status block count : ℕ)
         cell-in-table (kindOf (message .command)) (message .command),
       )
 
+-- the cells that are sent hold what they held
+pub sent-cells-stay : (line : Bool) (time : ℕ) (old : Card) (status block count cell : ℕ)
+    → step (silence line time) old .answer ≡ Replied (Words status block count) → cell < count
+    → cellAt (step (silence line time) old .card .ram) block cell ≡ cellAt (old .ram) block cell
+unfolding cellAt
+sent-cells-stay line time old status block count cell replied below =
+    step-writes-only (silence line time) old .same-else (wordAddress block cell)
+    (sent-cell-unwritten line time old status block count replied cell (wordAddress block cell)
+    below refl)
+
+-- so the values of the reply are the same before and after
 pub words-of-the-silence : (line : Bool) (time : ℕ) (old : Card) (reply : Reply)
     → step (silence line time) old .answer ≡ Replied reply
     → replyWords (step (silence line time) old .card .ram) reply ≡ replyWords (old .ram) reply
 words-of-the-silence line time old Silent replied = refl
 words-of-the-silence line time old (Status status) replied = refl
 words-of-the-silence line time old (Words status block count) replied =
-    let written = step-writes-only (silence line time) old in
     ap (λ (sent : List ℕ). status ∷ sent)
     (same-sent (step (silence line time) old .card .ram) (old .ram) block count
-    (written .same-length)
-    (λ cell below.
-    written .same-else (wordAddress block cell)
-    (sent-cell-stays line time old status block count replied cell (wordAddress block cell) below
-    refl)))
+    (step-writes-only (silence line time) old .same-length)
+    (λ cell below. sent-cells-stay line time old status block count cell replied below))
 words-of-the-silence line time old (Last status command) replied = refl
 
 -- the same of the public action, which leaves memory as it was where it refuses
