@@ -4,23 +4,26 @@
 Stored are examples/ and tests/recordings/: NAME.txt, what is to be printed in NAME.lines and
 NAME.cells, and in examples/ the bytes in NAME.bin too. Each is run whole, in pieces, cut at each
 byte and with each byte damaged. What a cut or damaged one is to print comes from the peer. Then
-outputs that fail, at once or after some bytes, and inputs that do.
+outputs that fail, and inputs that do, at once or after some bytes.
 """
 
 import concurrent.futures
 import os
+import pty
 import re
 import resource
 import signal
 import subprocess
 import sys
 import tempfile
+import tty
 
 import generate
 import programs
 
 RUN = programs.compiled("tray_run")
 CELLS = programs.compiled("tray_cells")
+TRAY = str(programs.ROOT / "tray")
 PEER = programs.peer()
 PEER_CELLS = programs.peer("cells")
 PIECES = (1, 2, 3, 7, 133, 4096, 65537)
@@ -119,26 +122,40 @@ def full_output(program, recording, output, room):
     return None
 
 
-def ended_input(program, **options):
-    """A read that fails is the end of the input."""
+def failed_input(program, output, status=0, words=b"", **options):
+    """A read that fails is no end: the lines so far are printed, and neither END nor a refusal."""
     done = subprocess.run(program, stdout=subprocess.PIPE, stderr=subprocess.PIPE, timeout=SECONDS,
                           **options)
-    if done.returncode != 0 or not done.stdout.startswith(b"END 0\n") or done.stderr:
-        return f"no input: left {done.returncode} {done.stdout!r} {done.stderr!r}"
+    if (done.returncode, done.stdout, done.stderr) != (status, output, words):
+        return f"failed read: left {done.returncode} {done.stdout!r} {done.stderr!r}"
     return None
 
 
 def closed_input(program):
-    return ended_input(program, preexec_fn=lambda: os.close(0))
+    return failed_input(program, b"", preexec_fn=lambda: os.close(0))
 
 
 def unreadable_input(program):
     """Every read of a directory fails."""
     folder = os.open("/", os.O_RDONLY)
     try:
-        return ended_input(program, stdin=folder)
+        return failed_input(program, b"", stdin=folder)
     finally:
         os.close(folder)
+
+
+def broken_input(program, recording, *told):
+    """A terminal whose other side is closed hands over what came from there, and then fails. The
+    lines are those of the whole fields: all that the peer prints of these bytes but the last."""
+    lines = programs.run(PEER, recording)[1].splitlines(keepends=True)[:-1]
+    near, far = pty.openpty()
+    try:
+        tty.setraw(far)
+        os.write(far, recording)
+        os.close(far)
+        return failed_input(program, b"".join(lines), *told, stdin=near)
+    finally:
+        os.close(near)
 
 
 def main():
@@ -172,6 +189,15 @@ def main():
                              if room < len(output)]
     checks["failed input"] = [(check, program) for check in (closed_input, unreadable_input)
                               for program in (RUN, CELLS)]
+    # at each byte, with whole fields and inside one
+    broken = next(recording for name, recording in stored if name.name == EVERY_BIT)
+    checks["input that breaks off"] = [(broken_input, program, broken[:end])
+                                       for end in range(len(broken) + 1)
+                                       for program in (RUN, CELLS)]
+    told = (1, b"tray: the run broke off: what is printed stops before its end\n")
+    checks["launcher, on such an input"] = [(broken_input, [TRAY, word], broken[:end], *told)
+                                            for word in ("run", "cells")
+                                            for end in (0, len(broken) - 1, len(broken))]
     failures = 0
     with concurrent.futures.ThreadPoolExecutor(os.cpu_count()) as pool:
         for kind, calls in checks.items():

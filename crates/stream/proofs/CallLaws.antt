@@ -2,11 +2,11 @@
 use mathlib.Core.Path.{_≡_, refl, sym, ap, subst, _∙_}
 use mathlib.Core.Logic.{_≢_}
 use mathlib.Core.Bool.{Bool, true, false}
-use mathlib.Core.List.{List, _++_}
-use Prim.Native.Nat.{ℕ, suc, _+_, _-_, _≤_}
+use mathlib.Core.List.{List}
+use Prim.Native.Nat.{ℕ, _+_, _-_, _≤_, _<_}
 use native.Mathlib.Omega.{arith}
 use lib.ListN.{length, take, drop}
-use lib.Seq.{sets, slice, sets-eq, length-sets, length-slice, take-at}
+use lib.Seq.{sets, slice, sets-eq, length-sets, length-slice, length-take-le, take-at}
 use borrow.Author.Tests.{le-leb}
 use Rattle.lines.specs.Written.{Put, put}
 use Rattle.tray.specs.declared.Ran.{Ran}
@@ -14,14 +14,13 @@ use Rattle.tray.specs.declared.Run.{Run}
 use Rattle.tray.specs.declared.Stop.{Stop}
 use Rattle.tray.specs.declared.Stop.the-variants.{Going, Hungry, Full, Over}
 use Rattle.tray.specs.Run.{Tray}
-use Rattle.tray.specs.Window.{Passed, windowRun, keptRest}
+use Rattle.tray.specs.Window.{Passed, isGoing, windowRun, keptRest}
 use Rattle.tray.specs.Held.{trayOf, passedOf}
-use Rattle.tray.specs.Pieces.{linesOf, calls}
-use Rattle.tray.proofs.EndLaws.{call-inside, last-call-waits-not}
+use Rattle.tray.proofs.EndLaws.{call-inside, call-stops, full-after-a-field}
 use Rattle.stream.specs.declared.Pump.{Pump}
-use Rattle.stream.specs.Came.{callsMade, finished, broken-off}
 use Rattle.stream.specs.Turns.{
-  Reached,
+  Buffers,
+  RoomToRead,
   ReadOn,
   Stepped,
   Settled,
@@ -30,11 +29,19 @@ use Rattle.stream.specs.Turns.{
   ends-run,
   reads-on,
 }
+use Rattle.stream.proofs.RoomLaws.{
+  going-over,
+  going-hungry,
+  full-over,
+  full-hungry,
+  hungry-few,
+}
 
 -- ---- what is left of the window
 
 record Rest (window : List ℕ) (at have : ℕ) (window′ : List ℕ) (left : ℕ) : Type 0 where
   bytes : take left window′ ≡ drop at (take have window)
+  is-left : left ≡ have - at
   inside : left ≤ length window′
 
 rest-kept : (window : List ℕ) (at have : ℕ) (window′ : List ℕ) (left : ℕ) → have ≤ length window
@@ -51,6 +58,7 @@ rest-kept window at have window′ left inside is =
       bytes =
           rw (is-left, is-window, sets-eq rest window 0 (omega (arith, long)))
           (take-at rest (drop (0 + length rest) window) (have - at) long);
+      is-left = is-left;
       inside = omega (arith, is-left, long, ap length is-window, length-sets window 0 rest);
     }
 
@@ -58,7 +66,7 @@ rest-kept window at have window′ left inside is =
 
 pub call-steps : (old : Run) (places ram window : List ℕ) (have : ℕ) (ended : Bool) (out : List ℕ)
     (ran : Ran) (places′ ram′ out′ window′ : List ℕ) (left : ℕ) (failed : Bool)
-    → have ≤ length window
+    → Buffers have window out
     → passedOf ran places′ ram′ out′
     ≡ windowRun (trayOf old places ram) (take (have - 0) (drop 0 window)) ended out
     → (failed ≡ true → ran .put ≢ 0)
@@ -66,51 +74,34 @@ pub call-steps : (old : Run) (places ram window : List ℕ) (have : ℕ) (ended 
     → Stepped (trayOf old places ram) window have ended (trayOf (ran .run) places′ ram′) window′
     (record { run = ran .run; have = left; ended = ended; over = failed; whole = false })
     (ran .stop)
-unfolding callsMade
-call-steps old places ram window have ended out ran places′ ram′ out′ window′ left failed inside
+call-steps old places ram window have ended out ran places′ ram′ out′ window′ left failed buffers
     is-ran lines is-kept =
     record {
-      on =
-          λ {start} {count} other so-far.
-          rw (rest .bytes)
-          (subst (λ (any : Passed). Reached start (suc count) ended (any .tray)
-          (drop (any .at) (take have window))) (sym is-call)
-          (record {
-            input = so-far .input;
-            text = so-far .text ++ linesOf call;
-            streamed =
-                calls out (so-far .streamed)
-                (λ is. other (ap (λ (any : Passed). any .stop) is-call ∙ is));
-            counted = ap suc (so-far .counted);
-          }));
-      last =
-          λ is so-far.
-          finished (record {
-            ended = ended;
-            before = so-far .text;
-            old = trayOf old places ram;
-            window = take have window;
-            out = out;
-            streamed = so-far .streamed;
-            is-over = sym (ap (λ (any : Passed). any .stop) is-call) ∙ is;
-            is-text = refl;
-            is-new = ap (λ (any : Passed). any .tray) is-call;
-          });
-      breaks =
-          λ is so-far.
-          broken-off (record {
-            ended = ended;
-            old = trayOf old places ram;
-            window = take have window;
-            out = out;
-            streamed = so-far .streamed;
-            has-lines = λ none. lines is (ap (λ (any : Passed). any .put) is-call ∙ none);
-            is-new = ap (λ (any : Passed). any .tray) is-call;
-          });
-      waits-not =
-          λ is-last is.
-          last-call-waits-not (take have window) ended is-last (trayOf old places ram) out
-          (sym (ap (λ (any : Passed). any .stop) is-call) ∙ is);
+      out = out;
+      is-new = ap (λ (any : Passed). any .tray) is-call;
+      is-stop = sym is-stop;
+      is-left = rest .bytes ∙ ap (λ (at : ℕ). drop at (take have window)) is-at;
+      breaks = λ is none. lines is (ap (λ (any : Passed). any .put) is-call ∙ none);
+      stops =
+          λ same.
+          let goes : call .stop ≡ Going = sym is-stop ∙ same in
+          let stopped : isGoing (call .stop) ≡ false =
+          call-stops (take have window) ended (trayOf old places ram) out (omega (arith, long)) in
+          let wrong : true ≡ false = rw goes at stopped in
+          let z : _≡_ {A = ℕ} 0 1 = cc in omega arith;
+      took =
+          λ same.
+          full-after-a-field (take have window) ended (trayOf old places ram) out
+          (omega (arith, buffers .out-size)) (sym is-stop ∙ same);
+      room =
+          λ same.
+          omega (
+            arith,
+            long,
+            is-at,
+            rest .is-left,
+            hungry-few (take have window) ended (trayOf old places ram) out (sym is-stop ∙ same),
+          );
       inside = rest .inside;
       same-end = refl;
       not-whole = refl;
@@ -125,8 +116,17 @@ call-steps old places ram window have ended out ran places′ ram′ out′ wind
         is-ran
         ∙ ap (λ (any : ℕ). windowRun (trayOf old places ram) (take any window) ended out) size
 
+    is-stop : ran .stop ≡ call .stop
+    is-stop = ap (λ (any : Passed). any .stop) is-call
+
+    is-at : ran .at ≡ call .at
+    is-at = ap (λ (any : Passed). any .at) is-call
+
+    long : length (take have window) ≡ have
+    long = length-take-le have window (buffers .inside)
+
     rest : Rest window (ran .at) have window′ left
-    rest = rest-kept window (ran .at) have window′ left inside is-kept
+    rest = rest-kept window (ran .at) have window′ left (buffers .inside) is-kept
 
 pub lines-inside : (old : Tray) (window : List ℕ) (last : Bool) (out : List ℕ) (ran : Ran)
     (places ram out′ : List ℕ)
@@ -135,23 +135,16 @@ lines-inside old window last out ran places ram out′ is =
     subst (λ (any : Passed). any .put ≤ length (any .out)) (sym is)
     (call-inside window last old out)
 
+-- where a call needs bytes there is room to read them
+pub room-there : (have : ℕ) (window : List ℕ) (stop : Stop) → RoomToRead have window stop
+    → stop ≡ Hungry → have < length window
+room-there have window stop there = there .room
+
 -- where there is nothing to write no write fails
 pub no-failure : (lines : ℕ) → false ≡ true → lines ≢ 0
 no-failure lines is = absurd (let z : _≡_ {A = ℕ} 0 1 = cc in omega arith)
 
 -- ---- what it leaves to do
-
-going-over : Going ≢ Over
-going-over same = let z : _≡_ {A = ℕ} 0 1 = cc in omega arith
-
-going-hungry : Going ≢ Hungry
-going-hungry same = let z : _≡_ {A = ℕ} 0 1 = cc in omega arith
-
-full-over : Full ≢ Over
-full-over same = let z : _≡_ {A = ℕ} 0 1 = cc in omega arith
-
-full-hungry : Full ≢ Hungry
-full-hungry same = let z : _≡_ {A = ℕ} 0 1 = cc in omega arith
 
 module _ (pump : Pump) (window : List ℕ) (stop : Stop) where
   pub settled-broken : pump .over ≡ true → Settled pump window stop pump window

@@ -1,23 +1,29 @@
--- What a whole run has printed and left, what no run leaves, and how far the claims reach.
--- Assumes nothing.
-use mathlib.Core.Path.{_≡_, refl, sym, ap, subst, _∙_}
+-- What a whole run has printed and left, what no run leaves, and how much was read where no turn is
+-- left. Assumes nothing.
+use mathlib.Core.Path.{_≡_, refl, sym, ap, _∙_}
 use mathlib.Core.Bool.{Bool, true, false}
-use mathlib.Core.List.{List, []}
-use Prim.Native.Nat.{ℕ}
+use mathlib.Core.List.{List, _++_}
+use Prim.Native.Nat.{ℕ, _≤_}
 use native.Mathlib.Omega.{arith}
-use lib.ListN.{replicate}
-use Rattle.card.specs.Memory.{cardWords}
-use Rattle.queue.specs.Queue.{queuePlaces}
-use Rattle.recording.specs.Reading.{readAt}
-use Rattle.lines.specs.Written.{lineRoom}
-use Rattle.tray.specs.Run.{Tray, trayAtStart, whole, wholeOf, wholeBy, wholeFrom}
-use Rattle.tray.specs.Held.{trayOf, runAtStart}
-use Rattle.tray.specs.Pieces.{Streamed, begins, reads, ends, calls, Finished}
+use lib.ListN.{length}
+use Rattle.tray.specs.declared.Stop.the-variants.{Over}
+use Rattle.tray.specs.Run.{Tray, trayAtStart, whole, wholeFrom}
+use Rattle.tray.specs.Pieces.{linesOf, Streamed, begins, reads, ends, calls, Finished}
 use Rattle.tray.specs.Window.{windowRun}
 use Rattle.tray.proofs.EndLaws.{unread-untouched}
-use Rattle.tray.proofs.RoomLaws.{over-at-once, whole-tray}
 use Rattle.tray.proofs.PieceLaws.{finished-prints}
-use Rattle.stream.specs.Came.{Came, finished, broken-off, spent}
+use Rattle.stream.specs.Progress.{Far, Progressed}
+use Rattle.stream.specs.Came.{
+  LastCall,
+  theCall,
+  mostCalls,
+  Came,
+  finished,
+  broken-off,
+  unread,
+  spent,
+}
+use Rattle.stream.proofs.ProgressLaws.{progressed-streamed, few-turns}
 
 -- a run is finished that has printed and left what the definition makes of its input
 pub record PrintedWhole (new : Tray) : Type 0 where
@@ -26,27 +32,37 @@ pub record PrintedWhole (new : Tray) : Type 0 where
   pub is-finished : Finished trayAtStart input text new
   pub as-defined : whole text new ≡ wholeFrom trayAtStart input
 
--- as `run_input` begins, over memory of zeros
-zero-memory : trayOf runAtStart (replicate queuePlaces 0) (replicate cardWords 0) ≡ trayAtStart
-unfolding runAtStart trayAtStart
-zero-memory = refl
+-- a run whose last call is over is finished
+is-finished : {start new : Tray} (last : LastCall start new) → theCall last .stop ≡ Over
+    → Finished start (last .before .input) (last .before .text ++ linesOf (theCall last)) new
+is-finished last is-over =
+    record {
+      ended = last .before .ended;
+      before = last .before .text;
+      old = last .before .tray;
+      window = last .before .window;
+      out = last .out;
+      streamed = progressed-streamed (last .progressed);
+      is-over = is-over;
+      is-text = refl;
+      is-new = last .is-new;
+    }
 
--- over memory of zeros, a whole run has printed `printed` of its input, and left what it leaves
-pub whole-run-prints : (new : Tray)
-    → Came (trayOf runAtStart (replicate queuePlaces 0) (replicate cardWords 0)) new true
-    → PrintedWhole new
-whole-run-prints new came =
-    by-end true refl (subst (λ (start : Tray). Came start new true) zero-memory came) where
-      by-end : (told : Bool) → told ≡ true → Came trayAtStart new told → PrintedWhole new
-      by-end _ is (finished {input} {text} done) =
-          record {
-            input = input;
-            text = text;
-            is-finished = done;
-            as-defined = finished-prints trayAtStart input text new done;
-          }
-      by-end _ is (broken-off _) = absurd (let z : _≡_ {A = ℕ} 0 1 = cc in omega arith)
-      by-end _ is (spent _ _) = absurd (let z : _≡_ {A = ℕ} 0 1 = cc in omega arith)
+-- a whole run has printed `printed` of its input, and left what it leaves
+pub whole-run-prints : (new : Tray) → Came trayAtStart new true → PrintedWhole new
+whole-run-prints new came = by-end true refl came where
+  by-end : (told : Bool) → told ≡ true → Came trayAtStart new told → PrintedWhole new
+  by-end _ is (finished last is-over) =
+      let done = is-finished last is-over in
+      record {
+        input = last .before .input;
+        text = last .before .text ++ linesOf (theCall last);
+        is-finished = done;
+        as-defined = finished-prints trayAtStart _ _ new done;
+      }
+  by-end _ is (broken-off _ _) = absurd (let z : _≡_ {A = ℕ} 0 1 = cc in omega arith)
+  by-end _ is (unread _ _) = absurd (let z : _≡_ {A = ℕ} 0 1 = cc in omega arith)
+  by-end _ is (spent _ _ _ _) = absurd (let z : _≡_ {A = ℕ} 0 1 = cc in omega arith)
 
 -- ---- what no run leaves
 
@@ -54,9 +70,9 @@ whole-run-prints new came =
 after-call : {start new : Tray} (window : List ℕ) (ended : Bool) (old : Tray) (out : List ℕ)
     → new ≡ windowRun old window ended out .tray → (old .begun ≡ false → old ≡ start)
     → new .begun ≡ false → new ≡ start
-after-call window ended old out is-new before unread =
+after-call window ended old out is-new before untold =
     let left : windowRun old window ended out .tray .begun ≡ false =
-    ap (λ (tray : Tray). tray .begun) (sym is-new) ∙ unread in
+    ap (λ (tray : Tray). tray .begun) (sym is-new) ∙ untold in
     let same : windowRun old window ended out .tray ≡ old =
     unread-untouched window ended old out left in
     is-new ∙ same ∙ before (ap (λ (tray : Tray). tray .begun) (sym same) ∙ left)
@@ -65,45 +81,30 @@ after-call window ended old out is-new before unread =
 streamed-untouched : {start : Tray} {ended : Bool} {input text : List ℕ} {new : Tray}
     {window : List ℕ} → Streamed start ended input text new window → new .begun ≡ false
     → new ≡ start
-streamed-untouched begins unread = refl
-streamed-untouched (reads piece so-far) unread = streamed-untouched so-far unread
-streamed-untouched (ends so-far) unread = streamed-untouched so-far unread
-streamed-untouched (calls {ended = ended} {old = old} {window = window} out so-far other) unread =
-    after-call window ended old out refl (λ sooner. streamed-untouched so-far sooner) unread
+streamed-untouched begins untold = refl
+streamed-untouched (reads piece so-far) untold = streamed-untouched so-far untold
+streamed-untouched (ends so-far) untold = streamed-untouched so-far untold
+streamed-untouched (calls {ended = ended} {old = old} {window = window} out so-far other) untold =
+    after-call window ended old out refl (λ sooner. streamed-untouched so-far sooner) untold
+
+last-untouched : {start new : Tray} → LastCall start new → new .begun ≡ false → new ≡ start
+last-untouched last untold =
+    after-call (last .before .window) (last .before .ended) (last .before .tray) (last .out)
+    (last .is-new) (streamed-untouched (progressed-streamed (last .progressed))) untold
 
 pub unread-is-untouched : {start new : Tray} {told : Bool} → Came start new told
     → new .begun ≡ false → new ≡ start
-unread-is-untouched (finished done) unread =
-    after-call (done .window) (done .ended) (done .old) (done .out) (done .is-new)
-    (streamed-untouched (done .streamed)) unread
-unread-is-untouched (broken-off broken) unread =
-    after-call (broken .window) (broken .ended) (broken .old) (broken .out) (broken .is-new)
-    (streamed-untouched (broken .streamed)) unread
-unread-is-untouched (spent so-far _) unread = streamed-untouched so-far unread
+unread-is-untouched (finished last _) untold = last-untouched last untold
+unread-is-untouched (broken-off last _) untold = last-untouched last untold
+unread-is-untouched (unread last _) untold = last-untouched last untold
+unread-is-untouched (spent far so-far _ is-new) untold =
+    is-new
+    ∙ streamed-untouched (progressed-streamed so-far)
+    (ap (λ (tray : Tray). tray .begun) (sym is-new) ∙ untold)
 
--- ---- how far the claim reaches
+-- ---- where no turn is left
 
-module _ (start : Tray) where
-  room : List ℕ
-  room = replicate lineRoom 0
-
-  -- no bytes, which are the last, make nothing of a run
-  nothing-made : wholeFrom start [] .tray ≡ start
-  unfolding wholeFrom wholeBy wholeOf readAt
-  nothing-made = refl
-
-  -- the input is not named, and a run of an empty one leaves all as it was
-  pub empty-input-is-whole : Came start start true
-  unfolding room
-  empty-input-is-whole =
-      finished (record {
-        ended = true;
-        before = [];
-        old = start;
-        window = [];
-        out = room;
-        streamed = ends begins;
-        is-over = over-at-once [] room (omega arith) start (omega arith);
-        is-text = refl;
-        is-new = sym (whole-tray [] room (omega arith) start (omega arith) ∙ nothing-made);
-      })
+-- so many bytes were read: 2^63 - 1
+pub spent-has-read : {start : Tray} (far : Far) → Progressed start mostCalls far
+    → 9223372036854775807 ≤ length (far .input)
+spent-has-read far so-far = omega (arith, few-turns so-far)

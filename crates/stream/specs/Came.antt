@@ -5,40 +5,35 @@ use mathlib.Core.Path.{_≡_}
 use mathlib.Core.Logic.{_≢_}
 use mathlib.Core.Bool.{Bool, true, false}
 use mathlib.Core.List.{List}
-use Prim.Native.Nat.{ℕ, suc}
+use Prim.Native.Nat.{ℕ, _≤_}
+use Rattle.tray.specs.declared.Stop.the-variants.{Hungry, Over}
 use Rattle.tray.specs.Run.{Tray}
-use Rattle.tray.specs.Window.{windowRun}
-use Rattle.tray.specs.Pieces.{Streamed, begins, reads, ends, calls, Finished}
+use Rattle.tray.specs.Window.{Passed}
+use Rattle.stream.specs.Progress.{Far, callAt, Progressed, turnsFor}
 
--- a call had lines to print, and was the last; before it this text had been printed
-pub record BrokenOff (start : Tray) (input text : List ℕ) (new : Tray) : Type 0 where
-  pub ended : Bool
-  pub old : Tray
-  pub window : List ℕ
+-- the last call came to `new`; before it the program had come so far
+pub record LastCall (start new : Tray) : Type 0 where
+  pub turns : ℕ
+  pub before : Far
+  pub progressed : Progressed start turns before
   pub out : List ℕ
-  pub streamed : Streamed start ended input text old window
-  pub has-lines : windowRun old window ended out .put ≢ 0
-  pub is-new : new ≡ windowRun old window ended out .tray
+  pub is-new : new ≡ callAt before out .tray
 
--- how many calls a program has made
-unfoldable pub callsMade : {start : Tray} {ended : Bool} {input text : List ℕ} {old : Tray}
-    {window : List ℕ} → Streamed start ended input text old window → ℕ
-callsMade begins = 0
-callsMade (reads piece so-far) = callsMade so-far
-callsMade (ends so-far) = callsMade so-far
-callsMade (calls out so-far other) = suc (callsMade so-far)
+abbrev pub theCall : {start new : Tray} → LastCall start new → Passed
+theCall last = callAt (last .before) (last .out)
 
--- as many as 64 bits count
+-- as many turns as 64 bits count
 abbrev pub mostCalls : ℕ
 mostCalls = 18446744073709551615
 
 -- `Came start new whole`: a run that began at `start` stopped at `new`, whole or not
 pub data Came (start new : Tray) : Bool → Type 0 where
   -- it is whole: a call ended it
-  finished : {input text : List ℕ} → Finished start input text new → Came start new true
+  finished : (last : LastCall start new) → theCall last .stop ≡ Over → Came start new true
   -- the lines of a call were not all taken, be they the last of the run
-  broken-off : {input text : List ℕ} → BrokenOff start input text new → Came start new false
-  -- no turn was left
-  spent : {ended : Bool} {input text window : List ℕ}
-      → (so-far : Streamed start ended input text new window) → callsMade so-far ≡ mostCalls
-      → Came start new false
+  broken-off : (last : LastCall start new) → theCall last .put ≢ 0 → Came start new false
+  -- a call needed bytes, and the read for them failed: there is no last line
+  unread : (last : LastCall start new) → theCall last .stop ≡ Hungry → Came start new false
+  -- no turn was left: so much was read and taken that each turn had its part of it
+  spent : (far : Far) → Progressed start mostCalls far → mostCalls ≤ turnsFor far
+      → new ≡ far .tray → Came start new false

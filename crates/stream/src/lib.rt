@@ -4,11 +4,22 @@
 ghost use mathlib.Core.Path.{_≡_};
 ghost use mathlib.Core.Logic.{_≢_};
 ghost use mathlib.Core.Bool.{true};
-ghost use Prim.Native.Nat.{_≤_};
+ghost use Prim.Native.Nat.{_≤_, _<_};
 ghost use lib.ListN.{length};
-ghost use Rattle.tray.specs.Held.{trayOf, runAtStart};
+ghost use Rattle.tray.specs.Run.{trayAtStart};
+ghost use Rattle.tray.specs.Held.{trayOf};
 ghost use Rattle.stream.specs.Came.{Came};
-ghost use Rattle.stream.specs.Turns.{Grown, ReadOn, Stepped, Settled, Turned};
+ghost use Rattle.stream.specs.Turns.{
+  Buffers,
+  RoomToRead,
+  isFailure,
+  Grown,
+  afterRead,
+  ReadOn,
+  Stepped,
+  Settled,
+  Turned,
+};
 use io;
 use libc;
 use libc::STDIN_FILENO;
@@ -40,14 +51,32 @@ pub struct Done {
     pub whole: bool,
 }
 
-// One more piece behind the bytes that are there. Answers how many there are then.
-fn read_behind(window: &mut [u8], have: usize) -> usize
-    requires { ⌜ have ≤ length (now window) ⌝ }
-    ensures { λ more. ⌜ Grown (now (window .entry)) have (now (window .exit)) more ⌝ }
+// What a read leaves: how many bytes are in the window, and what the C library answered.
+struct Heard {
+    have: usize,
+    answer: isize,
+}
+
+// The C library answers -1 where a read failed, 0 where the input has ended, else how many bytes
+// came.
+fn is_failure(answer: isize) -> bool
+    ensures { λ failed. ⌜ failed ≡ isFailure answer ⌝ }
+{
+    answer < 0
+}
+
+// One more piece behind the bytes that are there.
+fn read_behind(window: &mut [u8], have: usize) -> Heard
+    requires { ⌜ have < length (now window) ⌝ }
+    ensures { λ heard. ⌜ Grown (now (window .entry)) have (now (window .exit)) heard ⌝ }
 {
     let rest = &mut window[have..];
-    let got = libc::read(STDIN_FILENO, rest);
-    have + io::count(got, rest)
+    let answer = libc::read(STDIN_FILENO, rest);
+    let count = io::count(answer, rest);
+    Heard {
+        have: have + count,
+        answer: answer,
+    }
 }
 
 // Writes the lines of a call. Answers whether that failed, which it cannot where there are none.
@@ -86,21 +115,30 @@ impl Pump {
         }
     }
 
-    // A read that brings nothing, or fails, ends the input.
-    fn read_on(self, window: &mut [u8]) -> Pump
-        requires { ⌜ self .have ≤ length (now window) ⌝ }
-        ensures { λ pump. ⌜ ReadOn self (now (window .entry)) pump (now (window .exit)) ⌝ }
+    // A read that brings nothing ends the input. One that failed is no end: it ends the program,
+    // and no last line is printed.
+    fn after_read(self, heard: Heard) -> Pump
+        ensures { λ pump. ⌜ pump ≡ afterRead self heard ⌝ }
     {
         let run = self.run;
-        let have = self.have;
-        let more = read_behind(window, have);
+        let failed = is_failure(heard.answer);
         Pump {
             run: run,
-            have: more,
-            ended: more == have,
-            over: false,
+            have: heard.have,
+            ended: heard.have == self.have,
+            over: failed,
             whole: false,
         }
+    }
+
+    // There is room to read into: a read without room would look like the end of the input.
+    fn read_on(self, window: &mut [u8]) -> Pump
+        requires { ⌜ self .have < length (now window) ⌝ }
+        ensures { λ pump. ⌜ ReadOn self (now (window .entry)) pump (now (window .exit)) ⌝ }
+    {
+        let have = self.have;
+        let heard = read_behind(window, have);
+        self.after_read(heard)
     }
 
     // A call, and its lines written. A write that fails ends the program.
@@ -111,7 +149,7 @@ impl Pump {
         window: &mut [u8],
         out: &mut [u8],
     ) -> Called
-        requires { ⌜ self .have ≤ length (now window) ⌝ }
+        requires { ⌜ Buffers (self .have) (now window) (now out) ⌝ }
         ensures { λ left. ⌜ Stepped
             (trayOf (self .run) (now (places .entry)) (now (ram .entry)))
             (now (window .entry)) (self .have) (self .ended)
@@ -141,7 +179,7 @@ impl Pump {
     // What a call leaves to do: nothing where its lines were not taken, even if they were the last;
     // a read where it needs bytes.
     fn settle(self, window: &mut [u8], stop: Stop) -> Pump
-        requires { ⌜ self .have ≤ length (now window) ⌝ }
+        requires { ⌜ RoomToRead (self .have) (now window) stop ⌝ }
         ensures { λ pump. ⌜ Settled self (now (window .entry)) stop pump (now (window .exit)) ⌝ }
     {
         if self.over {
@@ -162,7 +200,7 @@ impl Pump {
         window: &mut [u8],
         out: &mut [u8],
     ) -> Pump
-        requires { ⌜ self .have ≤ length (now window) ⌝ }
+        requires { ⌜ Buffers (self .have) (now window) (now out) ⌝ }
         ensures { λ pump. ⌜ Turned
             (trayOf (self .run) (now (places .entry)) (now (ram .entry)))
             (now (window .entry)) (self .have) (self .ended)
@@ -176,13 +214,15 @@ impl Pump {
     }
 }
 
-// Runs the recording on standard input over the lent memory, which is zero for a tray run.
-pub fn run_input(places: &mut [u16; 256], ram: &mut [u16]) -> Done
-    ensures { λ done. ⌜ Came
-        (trayOf runAtStart (now (places .entry)) (now (ram .entry)))
+// Runs the recording on standard input over the lent memory, which starts zero, whatever it held.
+pub fn run_input(places: &mut [u16; 256], ram: &mut [u16; 16384]) -> Done
+    ensures { λ done. ⌜ Came trayAtStart
         (trayOf (done .run) (now (places .exit)) (now (ram .exit)))
         (done .whole) ⌝ }
 {
+    *places = [0; 256];
+    *ram = [0; 16384];
+    let memory: &mut [u16] = ram;
     let mut bytes = io::large_buffer();
     let window: &mut [u8] = &mut bytes;
     let mut lines = io::large_buffer();
@@ -200,7 +240,7 @@ pub fn run_input(places: &mut [u16; 256], ram: &mut [u16]) -> Done
         if pump.over {
             return pump.done();
         }
-        pump = pump.turn(places, ram, window, out);
+        pump = pump.turn(places, memory, window, out);
         turns -= 1;
     }
     pump.done()

@@ -11,7 +11,7 @@ fn main() {
     let mut places: [u16; 256] = [0; 256];
     let mut ram: [u16; 16384] = [0; 16384];
     let done = stream::run_input(&mut places, &mut ram);
-    // after a write that failed nothing more can be printed
+    // of a run that broke off, by a read or a write that failed, nothing more is printed
     if !done.whole {
         return;
     }

@@ -1,17 +1,15 @@
 -- `stream::run_input` meets its contract, by the laws of its loop. Assumes nothing.
-use lib.ListN.{length}
 use borrow.Author.Needs.{needs}
-use Rattle.tray.specs.Held.{trayOf, runAtStart}
 use Rattle.stream.proofs.LoopLaws.{Pumping, pumping}
 use Rattle.stream.proofs.run_input.Statement.{statement}
 use Rattle.stream.proofs.run_input.Tie as tie
 
 abbrev Inv-loop : tie.InvT-loop
-Inv-loop places₀ ram₀ window₀ out₀ pump₀ turns₀ places ram window out pump turns =
-    Pumping (trayOf runAtStart places₀ ram₀) pump places ram window (length ram₀) turns
+Inv-loop places₀ memory₀ window₀ out₀ pump₀ turns₀ places memory window out pump turns =
+    Pumping pump places memory window out turns
 
 abbrev μ-loop : tie.MeasureT-loop
-μ-loop places₀ ram₀ window₀ out₀ pump₀ turns₀ places ram window out pump turns = turns
+μ-loop places₀ memory₀ window₀ out₀ pump₀ turns₀ places memory window out pump turns = turns
 
 large-buffer-requires : tie.Need-large-buffer-requires Inv-loop μ-loop
 large-buffer-requires c κs = search (needs, pumping) depth 9
@@ -34,9 +32,6 @@ loop-holds c = search (needs, pumping) depth 9
 done-requires : tie.Need-done-requires Inv-loop μ-loop
 done-requires c κs = search (needs, pumping) depth 9
 
-same-length : tie.Need-same-length Inv-loop μ-loop
-same-length c = search (needs, pumping) depth 9
-
 returns : tie.Need-returns Inv-loop μ-loop
 returns c = search (needs, pumping) depth 9
 
@@ -55,9 +50,6 @@ loop-again c = search (needs, pumping) depth 9
 done-requires-2 : tie.Need-done-requires-2 Inv-loop μ-loop
 done-requires-2 c κs = search (needs, pumping) depth 9
 
-same-length-2 : tie.Need-same-length-2 Inv-loop μ-loop
-same-length-2 c = search (needs, pumping) depth 9
-
 returns-2 : tie.Need-returns-2 Inv-loop μ-loop
 returns-2 c = search (needs, pumping) depth 9
 
@@ -74,12 +66,10 @@ run-input-spec =
     at-start-requires
     loop-holds
     done-requires
-    same-length
     returns
     turn-requires
     sub-turns
     loop-less
     loop-again
     done-requires-2
-    same-length-2
     returns-2)

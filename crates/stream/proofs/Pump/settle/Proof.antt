@@ -1,7 +1,7 @@
 -- `stream::Pump::settle` meets its contract: a law for each way that a call stops. Assumes
 -- nothing.
 use borrow.Author.Needs.{needs}
-use Rattle.stream.proofs.CallLaws.{settling}
+use Rattle.stream.proofs.CallLaws.{room-there, settling}
 use Rattle.stream.proofs.Pump.settle.Statement.{statement}
 use Rattle.stream.proofs.Pump.settle.Tie as tie
 
@@ -24,7 +24,7 @@ enum-told-4 : tie.Need-enum-told-4
 enum-told-4 c = search needs
 
 read-on-requires : tie.Need-read-on-requires
-read-on-requires c κs = search needs
+read-on-requires c κs = search (needs, room-there) depth 9
 
 returns-2 : tie.Need-returns-2
 returns-2 c = search (needs, settling) depth 9

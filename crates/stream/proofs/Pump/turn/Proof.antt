@@ -1,6 +1,7 @@
 -- `stream::Pump::turn` meets its contract: a call, and what it leaves to do. Assumes nothing.
+use native.Mathlib.Omega.{arith}
 use borrow.Author.Needs.{needs}
-use Rattle.stream.proofs.LoopLaws.{turned-so, stepped-inside}
+use Rattle.stream.proofs.TurnLaws.{turned-so, stepped-room}
 use Rattle.stream.proofs.Pump.turn.Statement.{statement}
 use Rattle.stream.proofs.Pump.turn.Tie as tie
 
@@ -8,7 +9,9 @@ call-requires : tie.Need-call-requires
 call-requires c κs = search needs
 
 settle-requires : tie.Need-settle-requires
-settle-requires c κs = search needs
+settle-requires c κs =
+    let after-call = c .before .before .before .before .before .before .before .before in
+    stepped-room (after-call .call .ensures) (omega arith)
 
 same-length : tie.Need-same-length
 same-length c = search needs

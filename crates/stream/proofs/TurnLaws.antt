@@ -1,0 +1,193 @@
+-- A call, and what it leaves to do, is a turn: it takes a field, reads a piece or finds the end of
+-- the input, or it is the last. Assumes nothing.
+use mathlib.Core.Path.{_≡_, refl, sym, ap, _∙_}
+use mathlib.Core.Logic.{_≢_}
+use mathlib.Core.Bool.{Bool, true, false}
+use mathlib.Core.List.{List, [], _∷_, _++_, append-nil}
+use Prim.Native.Nat.{ℕ, suc, _≤_}
+use native.Mathlib.Omega.{arith}
+use lib.Dec.{eqb}
+use lib.ListN.{length, take}
+use lib.Seq.{length-take-le}
+use borrow.Author.Tests.{eqb-true, eqb-false}
+use Rattle.tray.specs.declared.Stop.{Stop}
+use Rattle.tray.specs.declared.Stop.the-variants.{Going, Hungry, Full, Over}
+use Rattle.tray.specs.Run.{Tray}
+use Rattle.tray.specs.Held.{trayOf}
+use Rattle.stream.specs.declared.Heard.{Heard}
+use Rattle.stream.specs.declared.Pump.{Pump}
+use Rattle.stream.specs.Progress.{
+  bufferBytes,
+  Far,
+  afterCall,
+  withPiece,
+  atEnd,
+  Progressed,
+  takes,
+  feeds,
+  finds-end,
+}
+use Rattle.stream.specs.Came.{LastCall, finished, broken-off, unread}
+use Rattle.stream.specs.Turns.{
+  Reached,
+  Pumped,
+  going,
+  over,
+  RoomToRead,
+  isFailure,
+  ReadOn,
+  Stepped,
+  Settled,
+  Turned,
+  breaks-off,
+  stays,
+  ends-run,
+  reads-on,
+}
+
+-- a call that neither goes on nor is over nor needs bytes had no room for another line
+is-full : (stop : Stop) → stop ≢ Going → stop ≢ Over → stop ≢ Hungry → stop ≡ Full
+is-full Going goes ends waits = absurd (goes refl)
+is-full Hungry goes ends waits = absurd (waits refl)
+is-full Full goes ends waits = refl
+is-full Over goes ends waits = absurd (ends refl)
+
+no-piece : (piece : List ℕ) → length piece ≡ 0 → piece ≡ []
+no-piece [] none = refl
+no-piece (byte ∷ rest) none = absurd (omega arith)
+
+-- what a call leaves to do is done
+module _ {start old : Tray} {turns : ℕ} {window : List ℕ} {have : ℕ} {ended : Bool}
+    (places ram window′ : List ℕ) (pump : Pump) (stop : Stop)
+    (step : Stepped old window have ended (trayOf (pump .run) places ram) window′ pump stop)
+    (so-far : Reached start turns ended old (take have window)) where
+  far : Far
+  far =
+      record {
+        ended = ended;
+        input = so-far .input;
+        text = so-far .text;
+        tray = old;
+        window = take have window;
+      }
+
+  last : LastCall start (trayOf (pump .run) places ram)
+  unfolding far
+  last =
+      record {
+        turns = turns;
+        before = far;
+        progressed = so-far .progressed;
+        out = step .out;
+        is-new = step .is-new;
+      }
+
+  -- as far as a turn has come
+  reached : (next : Far) {left : List ℕ} → Progressed start (suc turns) next
+      → next .tray ≡ afterCall far (step .out) .tray → next .window ≡ left
+      → Reached start (suc turns) (next .ended) (trayOf (pump .run) places ram) left
+  unfolding far
+  reached next progressed is-tray is-left =
+      rw (step .is-new ∙ sym is-tray, ← is-left)
+      (record { input = next .input; text = next .text; progressed = progressed })
+
+  stayed : stop ≢ Over → stop ≢ Hungry
+      → Reached start (suc turns) ended (trayOf (pump .run) places ram) (take (pump .have) window′)
+  unfolding far
+  stayed other nor =
+      let full : stop ≡ Full = is-full stop (step .stops) other nor in
+      reached (afterCall far (step .out))
+      (takes (step .out) (so-far .progressed) (step .is-stop ∙ full) (step .took full)) refl
+      (sym (step .is-left))
+
+  -- a read behind what the call left: it failed, brought nothing, or brought a piece
+  by-read : (next : Pump) (window″ : List ℕ) → stop ≡ Hungry → ReadOn pump window′ next window″
+      → Pumped start (suc turns) (trayOf (next .run) places ram) (take (next .have) window″)
+      (next .ended) (next .over) (next .whole)
+  unfolding far last
+  by-read next window″ hungry read =
+      rw (read .is-new) (go (isFailure (heard .answer)) (eqb (heard .have) (pump .have)) refl) where
+        heard : Heard
+        heard = read .heard
+
+        piece : List ℕ
+        piece = read .grown .piece
+
+        here : Far
+        here = afterCall far (step .out)
+
+        all : here .window ++ piece ≡ take (heard .have) window″
+        all =
+            ap (λ (left : List ℕ). left ++ piece) (sym (step .is-left)) ∙ sym (read .grown .behind)
+
+        go : (failed nothing : Bool) → eqb (heard .have) (pump .have) ≡ nothing
+            → Pumped start (suc turns) (trayOf (pump .run) places ram)
+            (take (heard .have) window″) nothing failed false
+        go true nothing is = over (unread last (step .is-stop ∙ hungry))
+        go false true is =
+            let same : heard .have ≡ pump .have = eqb-true (heard .have) (pump .have) is in
+            let none : piece ≡ [] = no-piece piece (omega (arith, read .grown .is-more)) in
+            let long = length-take-le (pump .have) window′ (step .inside) in
+            going (reached (atEnd here)
+            (finds-end (step .out) (so-far .progressed) (step .is-stop ∙ hungry)
+            (omega (arith, step .room hungry, long, ap length (step .is-left))))
+            refl
+            (sym (append-nil (here .window))
+            ∙ ap (λ (some : List ℕ). here .window ++ some) (sym none) ∙ all))
+        go false false is =
+            let other = eqb-false (heard .have) (pump .have) is in
+            going (reached (withPiece here piece)
+            (feeds (step .out) piece (so-far .progressed) (step .is-stop ∙ hungry)
+            (omega (arith, read .grown .is-more, other))) refl all)
+
+settled-so : {start old : Tray} {turns : ℕ} {window : List ℕ} {have : ℕ} {ended : Bool}
+    (places ram window′ : List ℕ) (pump next : Pump) (stop : Stop) (window″ : List ℕ)
+    → Stepped old window have ended (trayOf (pump .run) places ram) window′ pump stop
+    → Settled pump window′ stop next window″
+    → Reached start turns ended old (take have window)
+    → Pumped start (suc turns) (trayOf (next .run) places ram) (take (next .have) window″)
+    (next .ended) (next .over) (next .whole)
+unfolding last far
+settled-so places ram window′ pump next stop window″ step (breaks-off broken) so-far =
+    rw (broken, step .not-whole)
+    (over (broken-off (last places ram window′ pump stop step so-far) (step .breaks broken)))
+settled-so places ram window′ pump next stop window″ step (stays taken other nor) so-far =
+    rw (step .same-end, taken, step .not-whole)
+    (going (stayed places ram window′ pump stop step so-far other nor))
+settled-so places ram window′ pump next stop window″ step (ends-run taken is-next) so-far =
+    rw is-next
+    (over (finished (last places ram window′ pump stop step so-far) (step .is-stop)))
+settled-so places ram window′ pump next stop window″ step (reads-on taken read) so-far =
+    by-read places ram window′ pump stop step so-far next window″ refl read
+
+settled-inside : (pump next : Pump) (window : List ℕ) (stop : Stop) (window′ : List ℕ)
+    → pump .have ≤ length window → Settled pump window stop next window′
+    → next .have ≤ length window′
+settled-inside pump next window stop window′ inside (breaks-off _) = inside
+settled-inside pump next window stop window′ inside (stays _ _ _) = inside
+settled-inside pump next window stop window′ inside (ends-run _ is-next) = rw is-next inside
+settled-inside pump next window stop window′ inside (reads-on _ read) =
+    rw (read .is-new) (read .grown .inside)
+
+-- a call, and what it leaves to do, is a turn
+pub turned-so : (old : Tray) (called next : Pump) (stop : Stop) (have : ℕ) (ended : Bool)
+    (window places ram window′ window″ : List ℕ)
+    → Stepped old window have ended (trayOf (called .run) places ram) window′ called stop
+    → Settled called window′ stop next window″
+    → Turned old window have ended (trayOf (next .run) places ram) window″ next
+turned-so old called next stop have ended window places ram window′ window″ step settled =
+    record {
+      leads =
+          λ so-far. settled-so places ram window′ called next stop window″ step settled so-far;
+      inside = settled-inside called next window′ stop window″ (step .inside) settled;
+    }
+
+-- where the call needs bytes, it has left room to read them
+pub stepped-room : {old new : Tray} {window window′ : List ℕ} {have : ℕ} {ended : Bool}
+    {pump : Pump} {stop : Stop} → Stepped old window have ended new window′ pump stop
+    → length window′ ≡ bufferBytes → RoomToRead (pump .have) window′ stop
+stepped-room step size =
+    record {
+      inside = step .inside;
+      room = λ hungry. omega (arith, step .room hungry, size);
+    }
