@@ -29,6 +29,7 @@ PEER_CELLS = programs.peer("cells")
 PIECES = (1, 2, 3, 7, 133, 4096, 65537)
 EVERY_BIT = "tray"            # document 01's recording: flipped bit by bit; the others a bit a byte
 SECONDS = 60                  # a run that takes longer hangs
+BROKE_OFF = b"tray: the run broke off: what is printed stops before its end\n"
 
 
 def stored_recordings():
@@ -158,6 +159,16 @@ def broken_input(program, recording, *told):
         os.close(near)
 
 
+def launcher_without_room(word, recording):
+    """./tray says that a line could not be written: first the system's reason, then its own."""
+    with open("/dev/full", "wb") as sink:
+        done = subprocess.run([TRAY, word], input=recording, stdout=sink, stderr=subprocess.PIPE,
+                              timeout=SECONDS)
+    if done.returncode != 1 or not done.stderr.endswith(b"\n" + BROKE_OFF):
+        return f"no room: {word} left {done.returncode} {done.stderr!r}"
+    return None
+
+
 def main():
     stored = list(stored_recordings())
     long = generate.recording(2, fields=20000, well_formed=True)
@@ -194,10 +205,11 @@ def main():
     checks["input that breaks off"] = [(broken_input, program, broken[:end])
                                        for end in range(len(broken) + 1)
                                        for program in (RUN, CELLS)]
-    told = (1, b"tray: the run broke off: what is printed stops before its end\n")
-    checks["launcher, on such an input"] = [(broken_input, [TRAY, word], broken[:end], *told)
-                                            for word in ("run", "cells")
-                                            for end in (0, len(broken) - 1, len(broken))]
+    checks["launcher, broken off"] = [(broken_input, [TRAY, word], broken[:end], 1, BROKE_OFF)
+                                      for word in ("run", "cells")
+                                      for end in (0, len(broken) - 1, len(broken))]
+    checks["launcher, no room"] = [(launcher_without_room, word, broken)
+                                   for word in ("run", "cells")]
     failures = 0
     with concurrent.futures.ThreadPoolExecutor(os.cpu_count()) as pool:
         for kind, calls in checks.items():
