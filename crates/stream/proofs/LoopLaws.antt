@@ -14,7 +14,7 @@ use Rattle.tray.specs.Held.{trayOf, runAtStart}
 use Rattle.stream.specs.declared.Pump.{Pump}
 use Rattle.stream.specs.declared.Done.{Done}
 use Rattle.stream.specs.Progress.{bufferBytes, starts}
-use Rattle.stream.specs.Came.{mostCalls, Came, spent}
+use Rattle.stream.specs.Came.{allTurns, Came, spent}
 use Rattle.stream.specs.Turns.{Reached, Pumped, going, over, Buffers, Turned}
 use Rattle.stream.proofs.ProgressLaws.{few-turns}
 
@@ -23,7 +23,7 @@ pub record Pumping (pump : Pump) (places ram window out : List ℕ) (left : ℕ)
   pub turns : ℕ
   pub so-far : Pumped trayAtStart turns (trayOf (pump .run) places ram) (take (pump .have) window)
       (pump .ended) (pump .over) (pump .whole)
-  pub all-turns : turns + left ≡ mostCalls
+  pub all-turns : turns + left ≡ allTurns
   pub buffers : Buffers (pump .have) window out
 
 -- ---- the first turn
@@ -36,7 +36,7 @@ zero-memory = refl
 pub pumping-start : (run : Run) (window out : List ℕ) → run ≡ runAtStart
     → length window ≡ bufferBytes → length out ≡ bufferBytes
     → Pumping (record { run = run; have = 0; ended = false; over = false; whole = false })
-    (replicate queuePlaces 0) (replicate cardWords 0) window out mostCalls
+    (replicate queuePlaces 0) (replicate cardWords 0) window out allTurns
 pumping-start run window out is window-size out-size =
     record {
       turns = 0;
@@ -101,7 +101,7 @@ module _ (pump : Pump) (places ram window out : List ℕ) (left : ℕ) (done : D
   pumping-spent so-far none is-done =
       rw is-done (came (omega (arith, so-far .all-turns, none)) (so-far .so-far)) where
         came : {new : Tray} {turns : ℕ} {rest : List ℕ} {ended stopped whole : Bool}
-            → turns ≡ mostCalls → Pumped trayAtStart turns new rest ended stopped whole
+            → turns ≡ allTurns → Pumped trayAtStart turns new rest ended stopped whole
             → Came trayAtStart new whole
         came all (going {ended = ended} {new = new} {window = rest} so-far′) =
             let progressed = rw all at (so-far′ .progressed) in

@@ -39,6 +39,7 @@ module _ (start : Tray) where
   unfolding wholeFrom wholeBy wholeOf readAt
   nothing-made = refl
 
+  -- they hold no field
   nothing-read : (place : ℕ) (begun : Bool) → readAt [] place begun ≡ End
   unfolding readAt
   nothing-read place begun = let none : bytesLeft [] place ≡ 0 = omega arith in rw none

@@ -52,6 +52,7 @@ is-full Hungry goes ends waits = absurd (waits refl)
 is-full Full goes ends waits = refl
 is-full Over goes ends waits = absurd (ends refl)
 
+-- a piece of no bytes is none
 no-piece : (piece : List ℕ) → length piece ≡ 0 → piece ≡ []
 no-piece [] none = refl
 no-piece (byte ∷ rest) none = absurd (omega arith)
@@ -61,6 +62,7 @@ module _ {start old : Tray} {turns : ℕ} {window : List ℕ} {have : ℕ} {ende
     (places ram window′ : List ℕ) (pump : Pump) (stop : Stop)
     (step : Stepped old window have ended (trayOf (pump .run) places ram) window′ pump stop)
     (so-far : Reached start turns ended old (take have window)) where
+  -- before the call
   far : Far
   far =
       record {
@@ -71,6 +73,7 @@ module _ {start old : Tray} {turns : ℕ} {window : List ℕ} {have : ℕ} {ende
         window = take have window;
       }
 
+  -- the call, where it is the last
   last : LastCall start (trayOf (pump .run) places ram)
   unfolding far
   last =
@@ -91,6 +94,7 @@ module _ {start old : Tray} {turns : ℕ} {window : List ℕ} {have : ℕ} {ende
       rw (step .is-new ∙ sym is-tray, ← is-left)
       (record { input = next .input; text = next .text; progressed = progressed })
 
+  -- it took a field, and leaves nothing to do
   stayed : stop ≢ Over → stop ≢ Hungry
       → Reached start (suc turns) ended (trayOf (pump .run) places ram) (take (pump .have) window′)
   unfolding far
@@ -140,6 +144,7 @@ module _ {start old : Tray} {turns : ℕ} {window : List ℕ} {have : ℕ} {ende
             (feeds (step .out) piece (so-far .progressed) (step .is-stop ∙ hungry)
             (omega (arith, read .grown .is-more, other))) refl all)
 
+-- so far has the program come when that is done
 settled-so : {start old : Tray} {turns : ℕ} {window : List ℕ} {have : ℕ} {ended : Bool}
     (places ram window′ : List ℕ) (pump next : Pump) (stop : Stop) (window″ : List ℕ)
     → Stepped old window have ended (trayOf (pump .run) places ram) window′ pump stop
@@ -160,6 +165,7 @@ settled-so places ram window′ pump next stop window″ step (ends-run taken is
 settled-so places ram window′ pump next stop window″ step (reads-on taken read) so-far =
     by-read places ram window′ pump stop step so-far next window″ refl read
 
+-- and its bytes are inside the window
 settled-inside : (pump next : Pump) (window : List ℕ) (stop : Stop) (window′ : List ℕ)
     → pump .have ≤ length window → Settled pump window stop next window′
     → next .have ≤ length window′

@@ -16,7 +16,7 @@ use Rattle.stream.specs.Progress.{Far, Progressed}
 use Rattle.stream.specs.Came.{
   LastCall,
   theCall,
-  mostCalls,
+  allTurns,
   Came,
   finished,
   broken-off,
@@ -105,6 +105,6 @@ unread-is-untouched (spent far so-far _ is-new) untold =
 -- ---- where no turn is left
 
 -- so many bytes were read: 2^63 - 1
-pub spent-has-read : {start : Tray} (far : Far) → Progressed start mostCalls far
+pub spent-has-read : {start : Tray} (far : Far) → Progressed start allTurns far
     → 9223372036854775807 ≤ length (far .input)
 spent-has-read far so-far = omega (arith, few-turns so-far)

@@ -23,8 +23,8 @@ abbrev pub theCall : {start new : Tray} → LastCall start new → Passed
 theCall last = callAt (last .before) (last .out)
 
 -- as many turns as 64 bits count
-abbrev pub mostCalls : ℕ
-mostCalls = 18446744073709551615
+abbrev pub allTurns : ℕ
+allTurns = 18446744073709551615
 
 -- `Came start new whole`: a run that began at `start` stopped at `new`, whole or not
 pub data Came (start new : Tray) : Bool → Type 0 where
@@ -35,5 +35,5 @@ pub data Came (start new : Tray) : Bool → Type 0 where
   -- a call needed bytes, and the read for them failed: there is no last line
   unread : (last : LastCall start new) → theCall last .stop ≡ Hungry → Came start new false
   -- no turn was left: so much was read and taken that each turn had its part of it
-  spent : (far : Far) → Progressed start mostCalls far → mostCalls ≤ turnsFor far
+  spent : (far : Far) → Progressed start allTurns far → allTurns ≤ turnsFor far
       → new ≡ far .tray → Came start new false
