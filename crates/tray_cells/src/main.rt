@@ -3,9 +3,23 @@
 // the card, rising.
 mod cells;
 mod state;
+mod text;
 
 use io;
+use libc::STDOUT_FILENO;
 use stream;
+use tray::Run;
+
+// State and cells. There is room for both: with 256 blocks that wait, the state takes some 1,300
+// bytes, and 16,384 cells take 163,840, at 10 bytes a line.
+fn print_left(run: Run, places: &[u16; 256], ram: &[u16]) {
+    let mut space: [u8; 172032] = [0; 172032];
+    let out: &mut [u8] = &mut space;
+    let next = state::put_state(out, 0, run, places);
+    let end = cells::put_cells(out, next, ram);
+    let text = &out[..];
+    io::write_all(STDOUT_FILENO, &text[0..end]);
+}
 
 fn main() {
     let mut places: [u16; 256] = [0; 256];
@@ -16,8 +30,5 @@ fn main() {
         return;
     }
     let run = done.run;
-    let mut bytes = io::large_buffer();
-    let out: &mut [u8] = &mut bytes;
-    let put = state::put_state(out, run, &places);
-    cells::print(out, put, &ram);
+    print_left(run, &places, &ram);
 }

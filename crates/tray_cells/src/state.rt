@@ -1,6 +1,38 @@
-// The lines of the terminal's state. All of them, some 1,300 bytes at the most, have room in the
-// buffer. Every function here writes into it from a place on and answers the next place.
-use lines;
+// The lines of the terminal's state, an item a line. Every function here puts its text into the
+// lent buffer from a place on, as much as there is room for, and answers the next place.
+ghost use mathlib.Core.Path.{_≡_};
+ghost use mathlib.Core.List.{_∷_};
+ghost use Prim.Native.Nat.{_%_};
+ghost use Rattle.lines.specs.Digits.{hexByte, hexWord, decimal};
+ghost use Rattle.lines.specs.Lines.{blank};
+ghost use Rattle.lines.specs.Written.{put};
+ghost use Rattle.tray_cells.specs.Text.{fitted, Fits};
+ghost use Rattle.tray_cells.specs.State.{
+  item,
+  part,
+  line,
+  markText,
+  timeText,
+  lineName,
+  secondText,
+  stageText,
+  openingText,
+  fixedText,
+  progressText,
+  messageText,
+  blocksFrom,
+  eachBlock,
+  waitingText,
+  queueText,
+  wordsText,
+  rememberedText,
+  switchesText,
+  coreText,
+  terminalText,
+  stateText,
+};
+use crate::text;
+use bits;
 use message::state::Message;
 use message::state::OpenMessage;
 use message::state::Second;
@@ -10,162 +42,238 @@ use terminal::state::Core;
 use terminal::state::Held;
 use tray::Run;
 
-// ---- parts of a line
+// ---- items: a name, a value, and what stands behind it
 
-// A name and a decimal number.
-fn put_number(out: &mut [u8], at: usize, name: &[u8], number: u16) -> usize {
-    let next = lines::text(out, at, name);
-    lines::decimal(out, next, number as u64)
+fn put_number(out: &mut [u8], at: usize, name: &[u8], number: u16, last: u8) -> usize
+    ensures { λ next. ⌜ Fits (now (out .entry)) at (item (now (name .entry)) (decimal number) last)
+        (now (out .exit)) next ⌝ }
+{
+    let first = text::put_text(out, at, name);
+    let second = text::put_decimal(out, first, number);
+    text::put_byte(out, second, last)
 }
 
-// A name and a word in hex.
-fn put_word(out: &mut [u8], at: usize, name: &[u8], word: u16) -> usize {
-    let next = lines::text(out, at, name);
-    lines::hex_word(out, next, word)
+fn put_word(out: &mut [u8], at: usize, name: &[u8], word: u16, last: u8) -> usize
+    ensures { λ next. ⌜ Fits (now (out .entry)) at (item (now (name .entry)) (hexWord word) last)
+        (now (out .exit)) next ⌝ }
+{
+    let first = text::put_text(out, at, name);
+    let second = text::put_hex_word(out, first, word);
+    text::put_byte(out, second, last)
 }
 
-// A name and a mark, 0 or 1.
-fn put_mark(out: &mut [u8], at: usize, name: &[u8], mark: bool) -> usize {
-    let next = lines::text(out, at, name);
-    if mark {
-        return lines::text(out, next, b"1");
-    }
-    lines::text(out, next, b"0")
+// A mark is 0 or 1.
+fn put_mark(out: &mut [u8], at: usize, name: &[u8], mark: bool, last: u8) -> usize
+    ensures { λ next. ⌜ Fits (now (out .entry)) at (item (now (name .entry)) (markText mark) last)
+        (now (out .exit)) next ⌝ }
+{
+    put_number(out, at, name, bits::weigh(mark, 1), last)
 }
 
 // ---- the open message
 
-fn put_line_name(out: &mut [u8], at: usize, line: bool) -> usize {
+fn put_line(out: &mut [u8], at: usize, line: bool) -> usize
+    ensures { λ next. ⌜ Fits (now (out .entry)) at (part "line " (lineName line))
+        (now (out .exit)) next ⌝ }
+{
     if line {
-        return lines::text(out, at, b" line B");
+        return text::put_text(out, at, b"line B ");
     }
-    lines::text(out, at, b" line A")
+    text::put_text(out, at, b"line A ")
 }
 
-// A time in hex.
-fn put_opened(out: &mut [u8], at: usize, opened: u32) -> usize {
-    let high = (opened / 65536 % 65536) as u16;
-    let low = (opened % 65536) as u16;
-    let next = put_word(out, at, b" opened ", high);
-    lines::hex_word(out, next, low)
+// A time has 32 bits.
+fn put_opened(out: &mut [u8], at: usize, opened: u32) -> usize
+    ensures { λ next. ⌜ Fits (now (out .entry)) at (part "opened " (timeText opened))
+        (now (out .exit)) next ⌝ }
+{
+    let first = text::put_text(out, at, b"opened ");
+    let second = text::put_hex_word(out, first, (opened / 65536 % 65536) as u16);
+    let third = text::put_hex_word(out, second, (opened % 65536) as u16);
+    text::put_byte(out, third, b' ')
 }
 
-fn put_second(out: &mut [u8], at: usize, second: Second) -> usize {
+fn put_second(out: &mut [u8], at: usize, second: Second) -> usize
+    ensures { λ next. ⌜ Fits (now (out .entry)) at (part "second " (secondText second))
+        (now (out .exit)) next ⌝ }
+{
     match second {
-        Second::Absent => lines::text(out, at, b" second none"),
-        Second::Command(command) => put_word(out, at, b" second ", command),
+        Second::Absent => text::put_text(out, at, b"second none "),
+        Second::Command(command) => put_word(out, at, b"second ", command, b' '),
     }
 }
 
-fn put_stage(out: &mut [u8], at: usize, stage: Stage) -> usize {
+fn put_stage(out: &mut [u8], at: usize, stage: Stage) -> usize
+    ensures { λ next. ⌜ Fits (now (out .entry)) at (line "stage " (stageText stage))
+        (now (out .exit)) next ⌝ }
+{
     match stage {
-        Stage::Data => lines::text(out, at, b" stage data\n"),
-        Stage::SecondCommand => lines::text(out, at, b" stage second\n"),
-        Stage::AwaitingStatus => lines::text(out, at, b" stage awaiting\n"),
-        Stage::Skipping => lines::text(out, at, b" stage skipping\n"),
+        Stage::Data => text::put_text(out, at, b"stage data\n"),
+        Stage::SecondCommand => text::put_text(out, at, b"stage second\n"),
+        Stage::AwaitingStatus => text::put_text(out, at, b"stage awaiting\n"),
+        Stage::Skipping => text::put_text(out, at, b"stage skipping\n"),
     }
 }
 
 // Command, line and block.
-fn put_opening(out: &mut [u8], at: usize, held: OpenMessage) -> usize {
-    let first = put_word(out, at, b"open ", held.command);
-    let second = put_line_name(out, first, held.line);
-    put_number(out, second, b" block ", held.block)
+fn put_opening(out: &mut [u8], at: usize, message: OpenMessage) -> usize
+    ensures { λ next. ⌜ Fits (now (out .entry)) at (openingText message)
+        (now (out .exit)) next ⌝ }
+{
+    let first = put_word(out, at, b"open ", message.command, b' ');
+    let second = put_line(out, first, message.line);
+    put_number(out, second, b"block ", message.block, b' ')
 }
 
 // The table block, and what was fixed with it.
-fn put_fixed(out: &mut [u8], at: usize, held: OpenMessage) -> usize {
-    let first = put_number(out, at, b" table ", held.home);
-    let second = put_mark(out, first, b" moved ", held.moved);
-    let third = put_mark(out, second, b" busy ", held.busy);
-    put_mark(out, third, b" queued ", held.queued)
+fn put_fixed(out: &mut [u8], at: usize, message: OpenMessage) -> usize
+    ensures { λ next. ⌜ Fits (now (out .entry)) at (fixedText message)
+        (now (out .exit)) next ⌝ }
+{
+    let first = put_number(out, at, b"table ", message.home, b' ');
+    let second = put_mark(out, first, b"moved ", message.moved, b' ');
+    let third = put_mark(out, second, b"busy ", message.busy, b' ');
+    put_mark(out, third, b"queued ", message.queued, b' ')
 }
 
 // How far the message has come.
-fn put_progress(out: &mut [u8], at: usize, held: OpenMessage) -> usize {
-    let second = held.second;
-    let stage = held.stage;
-    let first = put_opened(out, at, held.opened);
-    let next = put_number(out, first, b" taken ", held.taken);
-    let third = put_second(out, next, second);
+fn put_progress(out: &mut [u8], at: usize, message: OpenMessage) -> usize
+    ensures { λ next. ⌜ Fits (now (out .entry)) at (progressText message)
+        (now (out .exit)) next ⌝ }
+{
+    let command = message.second;
+    let stage = message.stage;
+    let first = put_opened(out, at, message.opened);
+    let second = put_number(out, first, b"taken ", message.taken, b' ');
+    let third = put_second(out, second, command);
     put_stage(out, third, stage)
 }
 
-fn put_message(out: &mut [u8], at: usize, message: Message) -> usize {
+fn put_message(out: &mut [u8], at: usize, message: Message) -> usize
+    ensures { λ next. ⌜ Fits (now (out .entry)) at (messageText message)
+        (now (out .exit)) next ⌝ }
+{
     match message {
-        Message::Idle => lines::text(out, at, b"open none\n"),
-        Message::Open(held) => {
-            let first = put_opening(out, at, held);
-            let second = put_fixed(out, first, held);
-            put_progress(out, second, held)
+        Message::Idle => text::put_text(out, at, b"open none\n"),
+        Message::Open(open) => {
+            let first = put_opening(out, at, open);
+            let second = put_fixed(out, first, open);
+            put_progress(out, second, open)
         }
     }
 }
 
 // ---- the queue
 
-// The block at a place counted from the queue's start.
-fn put_block(out: &mut [u8], at: usize, ring: Ring, places: &[u16; 256], index: u16) -> usize {
-    let place = ((ring.start % 256 + index % 256) % 256) as usize;
-    put_number(out, at, b" ", places[place])
+fn put_block(out: &mut [u8], at: usize, block: u16) -> usize
+    ensures { λ next. ⌜ Fits (now (out .entry)) at (blank ∷ decimal block)
+        (now (out .exit)) next ⌝ }
+{
+    let first = text::put_byte(out, at, b' ');
+    text::put_decimal(out, first, block)
 }
 
 // The blocks that wait, oldest first.
-fn put_blocks(out: &mut [u8], at: usize, ring: Ring, places: &[u16; 256]) -> usize {
+fn put_blocks(out: &mut [u8], at: usize, ring: Ring, places: &[u16; 256]) -> usize
+    ensures { λ next. ⌜ Fits (now (out .entry)) at (eachBlock (blocksFrom (now (places .entry)) (ring .start) (ring .count)))
+        (now (out .exit)) next ⌝ }
+{
+    let start = ring.start as usize;
     let mut next = at;
     for index in 0..ring.count {
-        next = put_block(out, next, ring, places, index);
+        let place = (start + index as usize) % 256;
+        next = put_block(out, next, places[place]);
     }
     next
 }
 
-fn put_waiting(out: &mut [u8], at: usize, ring: Ring, places: &[u16; 256]) -> usize {
+fn put_waiting(out: &mut [u8], at: usize, ring: Ring, places: &[u16; 256]) -> usize
+    ensures { λ next. ⌜ Fits (now (out .entry)) at (waitingText (now (places .entry)) ring)
+        (now (out .exit)) next ⌝ }
+{
     if ring.count == 0 {
-        return lines::text(out, at, b"\nwaiting none\n");
+        return text::put_text(out, at, b"waiting none\n");
     }
-    let first = lines::text(out, at, b"\nwaiting");
+    let first = text::put_text(out, at, b"waiting");
     let second = put_blocks(out, first, ring, places);
-    lines::text(out, second, b"\n")
+    text::put_byte(out, second, b'\n')
+}
+
+fn put_queue(out: &mut [u8], at: usize, ring: Ring, places: &[u16; 256]) -> usize
+    ensures { λ next. ⌜ Fits (now (out .entry)) at (queueText (now (places .entry)) ring)
+        (now (out .exit)) next ⌝ }
+{
+    let next = put_mark(out, at, b"overflow ", ring.overflow, b'\n');
+    put_waiting(out, next, ring, places)
 }
 
 // ---- the terminal
 
-fn put_flags(out: &mut [u8], at: usize, flags: u16) -> usize {
-    let next = lines::text(out, at, b"\nflags ");
-    lines::hex_byte(out, next, (flags % 256) as u8)
+fn put_flags(out: &mut [u8], at: usize, flags: u16) -> usize
+    ensures { λ next. ⌜ Fits (now (out .entry)) at (line "flags " (hexByte (flags % 256)))
+        (now (out .exit)) next ⌝ }
+{
+    let first = text::put_text(out, at, b"flags ");
+    let second = text::put_hex_byte(out, first, (flags % 256) as u8);
+    text::put_byte(out, second, b'\n')
 }
 
-fn put_words(out: &mut [u8], at: usize, core: Core) -> usize {
-    let first = put_number(out, at, b"station ", core.station);
-    let second = put_number(out, first, b"\ntable ", core.table);
-    let third = put_flags(out, second, core.flags);
-    let fourth = put_word(out, third, b"\nstatus ", core.status);
-    put_word(out, fourth, b"\nlast ", core.last)
+fn put_words(out: &mut [u8], at: usize, core: Core) -> usize
+    ensures { λ next. ⌜ Fits (now (out .entry)) at (wordsText core)
+        (now (out .exit)) next ⌝ }
+{
+    let first = put_number(out, at, b"station ", core.station, b'\n');
+    let second = put_number(out, first, b"table ", core.table, b'\n');
+    put_flags(out, second, core.flags)
 }
 
-fn put_marks(out: &mut [u8], at: usize, core: Core) -> usize {
+fn put_remembered(out: &mut [u8], at: usize, core: Core) -> usize
+    ensures { λ next. ⌜ Fits (now (out .entry)) at (rememberedText core)
+        (now (out .exit)) next ⌝ }
+{
+    let next = put_word(out, at, b"status ", core.status, b'\n');
+    put_word(out, next, b"last ", core.last, b'\n')
+}
+
+fn put_switches(out: &mut [u8], at: usize, core: Core) -> usize
+    ensures { λ next. ⌜ Fits (now (out .entry)) at (switchesText core)
+        (now (out .exit)) next ⌝ }
+{
     let shut = core.shut;
-    let first = put_mark(out, at, b"\nshut A ", shut.a);
-    let second = put_mark(out, first, b"\nshut B ", shut.b);
-    put_mark(out, second, b"\ninhibit ", core.inhibit)
+    let first = put_mark(out, at, b"shut A ", shut.a, b'\n');
+    let second = put_mark(out, first, b"shut B ", shut.b, b'\n');
+    put_mark(out, second, b"inhibit ", core.inhibit, b'\n')
 }
 
-fn put_terminal(out: &mut [u8], held: Held, places: &[u16; 256]) -> usize {
+fn put_core(out: &mut [u8], at: usize, core: Core) -> usize
+    ensures { λ next. ⌜ Fits (now (out .entry)) at (coreText core)
+        (now (out .exit)) next ⌝ }
+{
+    let first = put_words(out, at, core);
+    let second = put_remembered(out, first, core);
+    put_switches(out, second, core)
+}
+
+fn put_terminal(out: &mut [u8], at: usize, held: Held, places: &[u16; 256]) -> usize
+    ensures { λ next. ⌜ Fits (now (out .entry)) at (terminalText held (now (places .entry)))
+        (now (out .exit)) next ⌝ }
+{
     let core = held.core;
     let ring = held.ring;
     let message = core.message;
-    let first = put_words(out, 0, core);
-    let second = put_marks(out, first, core);
-    let third = put_mark(out, second, b"\noverflow ", ring.overflow);
-    let fourth = put_waiting(out, third, ring, places);
-    put_message(out, fourth, message)
+    let first = put_core(out, at, core);
+    let second = put_queue(out, first, ring, places);
+    put_message(out, second, message)
 }
 
-// From the buffer's first byte on. Where no setup was taken there is no terminal.
-pub fn put_state(out: &mut [u8], run: Run, places: &[u16; 256]) -> usize {
-    if !run.begun {
-        return lines::text(out, 0, b"terminal none\n");
-    }
+// Every item of the state. Before a setup was taken there is no terminal.
+pub fn put_state(out: &mut [u8], at: usize, run: Run, places: &[u16; 256]) -> usize
+    ensures { λ next. ⌜ put next (now (out .exit))
+        ≡ fitted (now (out .entry)) at (stateText run (now (places .entry))) ⌝ }
+{
     let held = run.held;
-    put_terminal(out, held, places)
+    if run.begun {
+        return put_terminal(out, at, held, places);
+    }
+    text::put_text(out, at, b"terminal none\n")
 }

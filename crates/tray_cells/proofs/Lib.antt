@@ -1,0 +1,11 @@
+-- The mathematics of the lines of state and cells. Read `TextLaws` first.
+--     TextLaws       texts put one behind the other are put at once
+--     StateLaws      the parts of the state's text in turn
+--     CellLaws       the loop over the card's cells
+--     Determined     each public contract allows one outcome alone
+--     Examples       the definitions at work, by computation
+pub mod TextLaws
+pub mod StateLaws
+pub mod CellLaws
+pub mod Determined
+mod Examples
