@@ -98,7 +98,13 @@ fn perform_alone(terminal: Terminal, action: u16, argument: u16) -> Done {
 }
 
 // An action with one or two arguments.
-pub fn perform(terminal: Terminal, ram: &mut [u16], action: u16, first: u16, second: u16) -> Done {
+pub(crate) fn perform(
+    terminal: Terminal,
+    ram: &mut [u16],
+    action: u16,
+    first: u16,
+    second: u16,
+) -> Done {
     if action == WORD {
         return word(terminal, ram, first);
     }
@@ -194,7 +200,7 @@ fn part_holds(row: &[u8], ram: &mut [u16]) -> bool {
 }
 
 // Whether a row comes out as it should.
-pub fn holds(row: &[u8]) -> bool {
+pub(crate) fn holds(row: &[u8]) -> bool {
     let mut cells: [u16; 16385] = [0x1234; 16385];
     let ram: &mut [u16] = &mut cells;
     let before: [u16; 16385] = [0x1234; 16385];

@@ -34,6 +34,20 @@ fn holds(kind: u8, text: &[u8]) -> bool {
     row_holds(kind, notation::part(row, 0, size))
 }
 
+// Whether a case comes out as it should. One of a kind in capitals has something wrong in it, and
+// must differ.
+fn is_right(kind: u8, text: &[u8]) -> bool {
+    match kind {
+        b'R' => !holds(b'r', text),
+        b'M' => !holds(b'm', text),
+        b'Q' => !holds(b'q', text),
+        b'S' => !holds(b's', text),
+        b'T' => !holds(b't', text),
+        b'A' => !holds(b'a', text),
+        _ => holds(kind, text),
+    }
+}
+
 // ---- a group
 
 fn run_cases(name: &[u8], kind: u8, text: &[u8]) -> Score {
@@ -45,7 +59,7 @@ fn run_cases(name: &[u8], kind: u8, text: &[u8]) -> Score {
             break;
         }
         let end = notation::after(text, at, b'*');
-        score = report::judge(score, name, holds(kind, notation::part(text, at, end)));
+        score = report::judge(score, name, is_right(kind, notation::part(text, at, end)));
         at = end;
         left -= 1;
     }
@@ -61,7 +75,7 @@ fn run_group(text: &[u8]) -> Score {
 }
 
 // Every group of a text.
-pub fn run(text: &[u8]) -> Score {
+pub(crate) fn run(text: &[u8]) -> Score {
     let mut score = Score::none();
     let mut at = notation::after(text, 0, b'@');
     let mut left = text.len();

@@ -129,7 +129,7 @@ fn store(ram: &mut [u16], words: u16) {
 }
 
 // Whether a row comes out as it should.
-pub fn holds(row: &[u8]) -> bool {
+pub(crate) fn holds(row: &[u8]) -> bool {
     let mut cells: [u16; 16384] = [0; 16384];
     let ram: &mut [u16] = &mut cells;
     traffic::prepare(ram);

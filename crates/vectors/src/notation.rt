@@ -4,6 +4,9 @@
 //     r  recordings    m  messages    q  the queue
 //     s  setups        t  states      a  actions
 //
+// The kind in capitals is of cases that must differ: each is one that holds, but for one thing wrong
+// in what it should be. It comes out right if the comparison says that it differs.
+//
 // A case begins with a star. One that is a recording:
 //
 //     * what it shows
@@ -19,7 +22,7 @@
 // Every other case is a row of words in hex. A remark goes from a number sign to the line's end.
 
 // A part of the text, empty where its ends are not in order.
-pub fn part(text: &[u8], start: usize, end: usize) -> &[u8] {
+pub(crate) fn part(text: &[u8], start: usize, end: usize) -> &[u8] {
     if end < start {
         return &text[0..0];
     }
@@ -30,7 +33,7 @@ pub fn part(text: &[u8], start: usize, end: usize) -> &[u8] {
 }
 
 // The place of the first such byte from a place on, or the text's end.
-pub fn place_of(text: &[u8], from: usize, byte: u8) -> usize {
+pub(crate) fn place_of(text: &[u8], from: usize, byte: u8) -> usize {
     let mut at = from;
     while at < text.len() {
         if text[at] == byte {
@@ -42,7 +45,7 @@ pub fn place_of(text: &[u8], from: usize, byte: u8) -> usize {
 }
 
 // The place behind it, or the text's end.
-pub fn after(text: &[u8], from: usize, byte: u8) -> usize {
+pub(crate) fn after(text: &[u8], from: usize, byte: u8) -> usize {
     let at = place_of(text, from, byte);
     if at < text.len() {
         return at + 1;
@@ -51,7 +54,7 @@ pub fn after(text: &[u8], from: usize, byte: u8) -> usize {
 }
 
 // Puts a byte at a place, if there is room, and answers the next place.
-pub fn put_byte(out: &mut [u8], at: usize, byte: u8) -> usize {
+pub(crate) fn put_byte(out: &mut [u8], at: usize, byte: u8) -> usize {
     if at < out.len() {
         out[at] = byte;
         return at + 1;
@@ -60,7 +63,7 @@ pub fn put_byte(out: &mut [u8], at: usize, byte: u8) -> usize {
 }
 
 // Puts a word, high byte first.
-pub fn put_word(out: &mut [u8], at: usize, word: u16) -> usize {
+pub(crate) fn put_word(out: &mut [u8], at: usize, word: u16) -> usize {
     let next = put_byte(out, at, (word / 256 % 256) as u8);
     put_byte(out, next, (word % 256) as u8)
 }
@@ -134,7 +137,7 @@ fn turn(out: &mut [u8], old: Pairing, byte: u8) -> Pairing {
 
 // The bytes that a text's hex digits spell, two by two; every other byte is for the eye. Answers
 // how many they are.
-pub fn read_hex(text: &[u8], out: &mut [u8]) -> usize {
+pub(crate) fn read_hex(text: &[u8], out: &mut [u8]) -> usize {
     let mut pairing = Pairing {
         count: 0,
         high: 16,
@@ -151,7 +154,7 @@ pub fn read_hex(text: &[u8], out: &mut [u8]) -> usize {
 // ---- rows
 
 // A column of a row of bytes, 0 where the row has no such column.
-pub fn byte_in(row: &[u8], column: usize) -> u8 {
+pub(crate) fn byte_in(row: &[u8], column: usize) -> u8 {
     if column < row.len() {
         return row[column];
     }
@@ -163,7 +166,7 @@ fn word_of(high: u8, low: u8) -> u16 {
 }
 
 // A column of a row of words, high byte first.
-pub fn word_in(row: &[u8], column: usize) -> u16 {
+pub(crate) fn word_in(row: &[u8], column: usize) -> u16 {
     let at = column % 128 * 2;
     word_of(byte_in(row, at), byte_in(row, at + 1))
 }
@@ -179,7 +182,7 @@ fn printed(byte: u8) -> u8 {
 }
 
 // The lines that a text stands for, up to its own newline. Answers how many bytes they have.
-pub fn read_lines(text: &[u8], out: &mut [u8]) -> usize {
+pub(crate) fn read_lines(text: &[u8], out: &mut [u8]) -> usize {
     let mut count: usize = 0;
     let mut at: usize = 0;
     while at < text.len() {

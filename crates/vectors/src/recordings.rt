@@ -137,7 +137,7 @@ fn recording_holds(recording: &[u8], printed: &[u8], left: &[u8]) -> bool {
 }
 
 // Whether a case comes out as it should.
-pub fn holds(text: &[u8]) -> bool {
+pub(crate) fn holds(text: &[u8]) -> bool {
     let start = notation::after(text, 0, b'\n');
     let lines = notation::after(text, start, b'>');
     let state = notation::after(text, lines, b'=');

@@ -10,11 +10,11 @@ pub struct Score {
 }
 
 impl Score {
-    pub fn none() -> Score {
+    pub(crate) fn none() -> Score {
         Score { right: 0, tried: 0 }
     }
 
-    pub fn plus(self, other: Score) -> Score {
+    pub(crate) fn plus(self, other: Score) -> Score {
         Score {
             right: num::wrapping_add_u64(self.right, other.right),
             tried: num::wrapping_add_u64(self.tried, other.tried),
@@ -30,7 +30,7 @@ fn print_named(name: &[u8], number: u64) {
 }
 
 // The line of a group, as `rules 31 of 31`.
-pub fn print_score(name: &[u8], score: Score) {
+pub(crate) fn print_score(name: &[u8], score: Score) {
     print_named(name, score.right);
     io::write_all(STDOUT_FILENO, b" of ");
     io::print_decimal(STDOUT_FILENO, score.tried);
@@ -44,7 +44,7 @@ fn print_difference(name: &[u8], number: u64) {
 }
 
 // One case more. Cases are counted from 1 within their group.
-pub fn judge(score: Score, name: &[u8], right: bool) -> Score {
+pub(crate) fn judge(score: Score, name: &[u8], right: bool) -> Score {
     let tried = num::wrapping_add_u64(score.tried, 1);
     if right {
         return Score {

@@ -30,7 +30,7 @@ fn is_as_wanted(done: Done, row: &[u8]) -> bool {
 }
 
 // Whether a row comes out as it should.
-pub fn holds(row: &[u8]) -> bool {
+pub(crate) fn holds(row: &[u8]) -> bool {
     let station = notation::word_in(row, 0);
     let table = notation::word_in(row, 1);
     let done = Terminal::setup(station, table, notation::word_in(row, 2));

@@ -108,7 +108,7 @@ fn action_holds(state: Terminal, ram: &mut [u16], action: u16, wanted: u16) -> b
 }
 
 // Whether a row comes out as it should.
-pub fn holds(row: &[u8]) -> bool {
+pub(crate) fn holds(row: &[u8]) -> bool {
     let state = terminal_of(row);
     let wanted = notation::word_in(row, 12);
     let mut cells: [u16; 16384] = [0; 16384];

@@ -1,24 +1,28 @@
 // What the cases share that call the actions: a new terminal, a prepared card, a command on line A,
 // and the card compared cell by cell.
+ghost use Rattle.vectors.specs.Same.{Compared};
 use crate::notation;
 use io;
 use terminal::state::Terminal;
 
 // Station 5, table block 1.
-pub fn fresh(flags: u16) -> Terminal {
+pub(crate) fn fresh(flags: u16) -> Terminal {
     let done = Terminal::setup(5, 1, flags);
     done.terminal
 }
 
 // A command, sound and not joined.
-pub fn command(terminal: Terminal, ram: &mut [u16], value: u16, time: u32) -> Terminal {
+pub(crate) fn command(terminal: Terminal, ram: &mut [u16], value: u16, time: u32) -> Terminal {
     let left = terminal.word(ram, 6, value, time);
     left.terminal
 }
 
 // ---- the card
 
-pub fn same_words(first: &[u16], second: &[u16]) -> bool {
+// Whether two rows of words are the same.
+pub(crate) fn same_words(first: &[u16], second: &[u16]) -> bool
+    ensures { λ same. ⌜ Compared (now (first .entry)) (now (second .entry)) same ⌝ }
+{
     if first.len() != second.len() {
         return false;
     }
@@ -33,14 +37,14 @@ pub fn same_words(first: &[u16], second: &[u16]) -> bool {
 }
 
 // Puts a word into a cell of the card.
-pub fn put_cell(ram: &mut [u16], address: usize, word: u16) {
+pub(crate) fn put_cell(ram: &mut [u16], address: usize, word: u16) {
     if address < ram.len() {
         ram[address] = word;
     }
 }
 
 // Puts the cells of a row, as address and word.
-pub fn put_cells(ram: &mut [u16], row: &[u8]) {
+pub(crate) fn put_cells(ram: &mut [u16], row: &[u8]) {
     let pairs = row.len() / 4;
     for pair in 0..pairs {
         let column = pair % 64 * 2;
@@ -53,7 +57,7 @@ pub fn put_cells(ram: &mut [u16], row: &[u8]) {
 // Receives and transmits of subaddress 3 have the chain of block 2, and each of the three chains of
 // mode commands has a block of its own: 2, 3 and 4. Each wants the queue, and has a word in its
 // cell 0 and a link. Blocks 2 and 3 are each other's link.
-pub fn prepare(ram: &mut [u16]) {
+pub(crate) fn prepare(ram: &mut [u16]) {
     let mut bytes = io::buffer();
     let row: &mut [u8] = &mut bytes;
     let size = notation::read_hex(

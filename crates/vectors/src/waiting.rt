@@ -70,7 +70,7 @@ fn run_row(ram: &mut [u16], row: &[u8], mark: u16) -> Reads {
 }
 
 // Whether a row comes out as it should. Then the queue is empty.
-pub fn holds(row: &[u8]) -> bool {
+pub(crate) fn holds(row: &[u8]) -> bool {
     let mut cells: [u16; 16384] = [0; 16384];
     let ram: &mut [u16] = &mut cells;
     traffic::prepare(ram);

@@ -25,8 +25,8 @@ after-requires-2 c = search needs
 part-requires : tie.Need-part-requires Inv-loop μ-loop
 part-requires c κs = search needs
 
-holds-requires : tie.Need-holds-requires Inv-loop μ-loop
-holds-requires c κs = search needs
+is-right-requires : tie.Need-is-right-requires Inv-loop μ-loop
+is-right-requires c κs = search needs
 
 judge-requires : tie.Need-judge-requires Inv-loop μ-loop
 judge-requires c κs = search needs
@@ -57,7 +57,7 @@ run-cases-spec =
     loop-holds
     after-requires-2
     part-requires
-    holds-requires
+    is-right-requires
     judge-requires
     sub-left
     loop-less

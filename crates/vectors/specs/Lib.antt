@@ -1,0 +1,2 @@
+-- What the program's comparison of cells says.
+pub mod Same
