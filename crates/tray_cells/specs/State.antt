@@ -52,13 +52,16 @@ timeText time = hexWord (time / 65536 % 65536) ++ hexWord (time % 65536)
 
 -- ---- the open message
 
+-- the bus line that its command came on
 abbrev pub lineName : Bool → List ℕ
 lineName line = cond line (bytes "B") (bytes "A")
 
+-- the second command, where there is one
 abbrev pub secondText : Second → List ℕ
 secondText Absent = bytes "none"
 secondText (Command command) = hexWord command
 
+-- what the message waits for
 abbrev pub stageText : Stage → List ℕ
 stageText Data = bytes "data"
 stageText SecondCommand = bytes "second"
@@ -88,11 +91,12 @@ progressText message =
     ++ part "second " (secondText (message .second))
     ++ line "stage " (stageText (message .stage))
 
+-- all its items, where a message is open
 unfoldable pub messageText : Message → List ℕ
 messageText Idle = bytes "open none\n"
 messageText (Open message) = openingText message ++ fixedText message ++ progressText message
 
--- ---- the queue: overflow, and the blocks that wait
+-- ---- the queue
 
 -- oldest first: so many places from the queue's start on, round the ring
 unfoldable pub blocksFrom : List ℕ → ℕ → ℕ → List ℕ
@@ -105,36 +109,43 @@ unfoldable pub eachBlock : List ℕ → List ℕ
 eachBlock [] = []
 eachBlock (block ∷ blocks) = (blank ∷ decimal block) ++ eachBlock blocks
 
+-- the blocks that wait, where any do
 unfoldable pub waitingText : List ℕ → Ring → List ℕ
 waitingText places ring =
     cond (eqb (ring .count) 0)
     (bytes "waiting none\n")
     (item (bytes "waiting") (eachBlock (blocksFrom places (ring .start) (ring .count))) newline)
 
+-- overflow, and the blocks that wait
 unfoldable pub queueText : List ℕ → Ring → List ℕ
 queueText places ring = line "overflow " (markText (ring .overflow)) ++ waitingText places ring
 
 -- ---- the terminal
 
+-- what setup and the host have set
 unfoldable pub wordsText : Core → List ℕ
 wordsText core =
     line "station " (decimal (core .station))
     ++ line "table " (decimal (core .table))
     ++ line "flags " (hexByte (core .flags % 256))
 
+-- remembered status and last command
 unfoldable pub rememberedText : Core → List ℕ
 rememberedText core =
     line "status " (hexWord (core .status)) ++ line "last " (hexWord (core .last))
 
+-- what mode commands have switched
 unfoldable pub switchesText : Core → List ℕ
 switchesText core =
     line "shut A " (markText (core .shut .a))
     ++ line "shut B " (markText (core .shut .b))
     ++ line "inhibit " (markText (core .inhibit))
 
+-- all but the queue and the open message
 unfoldable pub coreText : Core → List ℕ
 coreText core = wordsText core ++ rememberedText core ++ switchesText core
 
+-- every item
 unfoldable pub terminalText : Held → List ℕ → List ℕ
 terminalText held places =
     coreText (held .core)

@@ -10,8 +10,8 @@ use libc::STDOUT_FILENO;
 use stream;
 use tray::Run;
 
-// State and cells. There is room for both: with 256 blocks that wait, the state takes some 1,300
-// bytes, and 16,384 cells take 163,840, at 10 bytes a line.
+// State and cells, in one write. There is room for both (`nothing-is-cut`): with 256 blocks that
+// wait, the state takes some 1,300 bytes, and 16,384 cells take 163,840, at 10 bytes a line.
 fn print_left(run: Run, places: &[u16; 256], ram: &[u16]) {
     let mut space: [u8; 172032] = [0; 172032];
     let out: &mut [u8] = &mut space;

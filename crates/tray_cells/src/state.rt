@@ -218,6 +218,7 @@ fn put_flags(out: &mut [u8], at: usize, flags: u16) -> usize
     text::put_byte(out, second, b'\n')
 }
 
+// What setup and the host have set.
 fn put_words(out: &mut [u8], at: usize, core: Core) -> usize
     ensures { λ next. ⌜ Fits (now (out .entry)) at (wordsText core)
         (now (out .exit)) next ⌝ }
@@ -227,6 +228,7 @@ fn put_words(out: &mut [u8], at: usize, core: Core) -> usize
     put_flags(out, second, core.flags)
 }
 
+// Remembered status and last command.
 fn put_remembered(out: &mut [u8], at: usize, core: Core) -> usize
     ensures { λ next. ⌜ Fits (now (out .entry)) at (rememberedText core)
         (now (out .exit)) next ⌝ }
@@ -235,6 +237,7 @@ fn put_remembered(out: &mut [u8], at: usize, core: Core) -> usize
     put_word(out, next, b"last ", core.last, b'\n')
 }
 
+// What mode commands have switched.
 fn put_switches(out: &mut [u8], at: usize, core: Core) -> usize
     ensures { λ next. ⌜ Fits (now (out .entry)) at (switchesText core)
         (now (out .exit)) next ⌝ }
