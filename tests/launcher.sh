@@ -67,7 +67,7 @@ done
 prints examples/tray.lines example
 echo 'END 0' >"$room/empty.lines"
 prints "$room/empty.lines" run /dev/null
-prints "$room/empty.lines" run <&-
+refuses 'standard input is closed' run <&-
 cp examples/tray.bin "$room/a name of = - 3 words.bin"
 prints examples/tray.lines run "$room/a name of = - 3 words.bin"
 

@@ -28,7 +28,7 @@ fn put_reply(out: &mut [u8], at: usize, ram: &[u16], reply: Reply) -> usize
     }
 }
 
-pub fn put_answer(out: &mut [u8], at: usize, ram: &[u16], answer: Answer) -> usize
+pub(crate) fn put_answer(out: &mut [u8], at: usize, ram: &[u16], answer: Answer) -> usize
     ensures { λ next. ⌜ put next (now (out .exit))
         ≡ lineWritten (now (out .entry)) at (answerLine (now (ram .entry)) answer) ⌝ }
 {
@@ -39,7 +39,7 @@ pub fn put_answer(out: &mut [u8], at: usize, ram: &[u16], answer: Answer) -> usi
 }
 
 // END with the fields taken, or the number of the refusal with the offset of its field.
-pub fn put_last(out: &mut [u8], at: usize, number: u8, fields: u64, offset: u64) -> usize
+pub(crate) fn put_last(out: &mut [u8], at: usize, number: u8, fields: u64, offset: u64) -> usize
     ensures { λ next. ⌜ put next (now (out .exit))
         ≡ lineWritten (now (out .entry)) at (lastLine number fields offset) ⌝ }
 {

@@ -105,7 +105,7 @@ fn wanted_by(able: bool, message: OpenMessage) -> u16
 
 // The data words that stand next and are wanted: three quarters of the fields of a busy rack.
 // Each is a turn, but touches a few numbers alone.
-pub fn take_row(ran: Ran, ram: &mut [u16], window: &[u8], room: usize, most: u64) -> Rowed
+pub(crate) fn take_row(ran: Ran, ram: &mut [u16], window: &[u8], room: usize, most: u64) -> Rowed
     ensures { λ rowed. ⌜ RowTaken (now (window .entry)) room most ran (now (ram .entry))
         (rowed .left) (rowed .ran) (now (ram .exit)) ⌝ }
 {
