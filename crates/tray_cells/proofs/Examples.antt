@@ -2,7 +2,7 @@
 -- few more. Assumes nothing.
 use mathlib.Core.Path.{_≡_, refl}
 use mathlib.Core.Bool.{true, false}
-use mathlib.Core.List.{List, [], _∷_, _++_}
+use mathlib.Core.List.{[], _∷_, _++_}
 use lib.ListN.{replicate}
 use Rattle.queue.specs.Queue.{ringOf}
 use Rattle.message.specs.declared.state.Stage.the-variants.{AwaitingStatus}
@@ -11,7 +11,6 @@ use Rattle.message.specs.declared.state.Message.the-variants.{Idle, Open}
 use Rattle.tray.specs.Held.{runAtStart}
 use Rattle.lines.specs.Digits.{hexDigit, hexByte, hexWord, decimal, decimalBy}
 use Rattle.lines.specs.Written.{put, stored}
-use Rattle.terminal.specs.State.{coreAtSetup}
 use Rattle.tray_cells.specs.Text.{bytes, fitted}
 use Rattle.tray_cells.specs.State.{
   openingText,

@@ -29,7 +29,7 @@ use Rattle.terminal.specs.declared.state.Held.{Held}
 use Rattle.tray.specs.declared.Run.{Run}
 use Rattle.lines.specs.Digits.{hexByte, hexWord, decimal}
 use Rattle.lines.specs.Lines.{blank, newline}
-use Rattle.lines.specs.Written.{Put, put, stored, written}
+use Rattle.lines.specs.Written.{Put, put, stored}
 use Rattle.lines.proofs.DecimalLaws.{length-decimal}
 use Rattle.lines.proofs.Lengths.{length-hex-byte, length-hex-word}
 use Rattle.lines.proofs.WrittenLaws.{in-room, take-written}

@@ -1,13 +1,13 @@
 -- The laws of `specs/Text.antt`: texts that are put one behind the other are put at once, and the
 -- digits that stand in a buffer of their own are the number's. Assumes nothing.
 use mathlib.Core.Path.{_≡_, sym, ap, _∙_}
-use mathlib.Core.List.{List, [], _∷_, _++_, append-nil}
-use Prim.Native.Nat.{ℕ, _+_, _-_, _≤_, _<_}
+use mathlib.Core.List.{List, [], _++_, append-nil}
+use Prim.Native.Nat.{ℕ, _+_, _-_, _≤_}
 use native.Mathlib.Decide.{decLe}
 use native.Mathlib.Nat.{add-zero, sub-self}
 use native.Mathlib.Omega.{arith}
 use lib.ListN.{length, take, length-take, replicate}
-use lib.Seq.{sets, length-sets, length-take-le, take-all, take-nil, take-append-le, take-append-add}
+use lib.Seq.{length-sets, length-take-le, take-all, take-nil, take-append-le, take-append-add}
 use Rattle.lines.specs.Digits.{hexByte, hexWord, decimal, decimalPlaces}
 use Rattle.lines.specs.Written.{Put, put, stored, written, Wrote}
 use Rattle.lines.proofs.Callers.{decimal-place}

@@ -5,7 +5,7 @@ use Rattle.tray_cells.proofs.cells.put_cell.Statement.{statement}
 use Rattle.tray_cells.proofs.cells.put_cell.Tie as tie
 
 returns : tie.Need-returns
-returns c = search (needs, zero-fits, cell-fits)
+returns c = search (needs, zero-fits)
 
 put-hex-word-requires : tie.Need-put-hex-word-requires
 put-hex-word-requires c κs = search needs
@@ -23,7 +23,7 @@ same-length : tie.Need-same-length
 same-length c = search needs
 
 returns-2 : tie.Need-returns-2
-returns-2 c = search (needs, zero-fits, cell-fits)
+returns-2 c = search (needs, cell-fits)
 
 pub put-cell-spec : {M : Type 1} → statement M
 put-cell-spec =

@@ -23,7 +23,7 @@ cast-start : tie.Need-cast-start Inv-loop μ-loop
 cast-start c = search needs
 
 loop-holds : tie.Need-loop-holds Inv-loop μ-loop
-loop-holds c = search (needs, blocks-all, blocks-less, blocks-none)
+loop-holds c = search (needs, blocks-all)
 
 cast-place : tie.Need-cast-place Inv-loop μ-loop
 cast-place c = search needs
@@ -47,13 +47,13 @@ loop-less : tie.Need-loop-less Inv-loop μ-loop
 loop-less c = search needs
 
 loop-again : tie.Need-loop-again Inv-loop μ-loop
-loop-again c = search (needs, blocks-all, blocks-less, blocks-none)
+loop-again c = search (needs, blocks-less)
 
 same-length : tie.Need-same-length Inv-loop μ-loop
 same-length c = search needs
 
 returns : tie.Need-returns Inv-loop μ-loop
-returns c = search (needs, blocks-all, blocks-less, blocks-none)
+returns c = search (needs, blocks-none)
 
 pub put-blocks-spec : {M : Type 1} → statement M
 put-blocks-spec =

@@ -23,7 +23,7 @@ same-length : tie.Need-same-length
 same-length c = search needs
 
 returns : tie.Need-returns
-returns c = search (needs, text-whole, text-cut)
+returns c = search (needs, text-cut)
 
 text-requires-2 : tie.Need-text-requires-2
 text-requires-2 c κs = search needs
@@ -32,7 +32,7 @@ same-length-2 : tie.Need-same-length-2
 same-length-2 c = search needs
 
 returns-2 : tie.Need-returns-2
-returns-2 c = search (needs, text-whole, text-cut)
+returns-2 c = search (needs, text-whole)
 
 pub put-text-spec : {M : Type 1} → statement M
 put-text-spec =
