@@ -1,7 +1,8 @@
 #!/usr/bin/env python3
 """The names of docs/THEOREMS.md against the crates: every definition, theorem and function stands
 where the page says, every path is there, and every public function and every must-fail edit is on
-the page, an edit by its name alone. Leaves 1 on a difference."""
+the page, an edit by its name alone. A public function has a contract and requires nothing, and an
+edit changes no proof. Leaves 1 on a difference."""
 
 import pathlib
 import re
@@ -18,6 +19,8 @@ CODED = re.compile(r"^([a-z_]+)::((?:\w+::)*)(\w+)$")
 PLAIN = {"u8", "u16", "pub", "requires", "main", "specs/", "proofs/", "must-fail/", "rt ci"}
 TYPE = re.compile(r"^pub (?:struct|enum) (\w+)", re.MULTILINE)
 FUNCTION = re.compile(r'^(\s*)(?:(pub )|pub\(crate\) )?(?:extern "C" )?fn (\w+)', re.MULTILINE)
+# a public function up to its first brace: with a contract that is the one behind `ensures`
+SIGNATURE = re.compile(r'^\s*pub (?:extern "C" )?fn (\w+)([^{]*)\{', re.MULTILINE)
 BLOCK = re.compile(r"^impl (\w+) \{$(.*?)^\}$", re.MULTILINE | re.DOTALL)
 
 
@@ -75,6 +78,12 @@ def main():
                   if public and (crate, module, kind, name, public) not in named]
     wrong += [f"{path.relative_to(ROOT)} is not on the page"
               for name, path in sorted(edits.items()) if name not in tokens]
+    wrong += [f"{path.relative_to(ROOT)} changes a proof"
+              for path in sorted(edits.values()) if "\nfile: proofs/" in path.read_text()]
+    wrong += [f"{path.relative_to(ROOT)}: {name} has no contract, or requires something"
+              for path in sorted(CRATES.glob("*/src/*.rt"))
+              for name, until in SIGNATURE.findall(path.read_text())
+              if not until.rstrip().endswith("ensures")]
     for line in wrong:
         print(f"FAILED THEOREMS: {line}")
     print(f"THEOREMS: {len(tokens)} names, {len(wrong)} wrong")
