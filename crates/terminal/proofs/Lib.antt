@@ -10,8 +10,8 @@
 --     FitSilence    a silence keeps the card fit
 --     FitLaws       a fit state stays fit: setup, one event, and a run
 --     NoTerminal    what a refused setup returns is refused by every action
---     OneBlock      one broken message costs one block
 --     StoreLaws     where rule 8 stores a word
+--     OneBlock      one broken message costs one block
 --     StepFrame     what an event leaves alone: every cell that it may not write
 --     OtherCells    .. and so the other cells of a message's block, and other blocks
 --     ClosesLaws    an open message closes, is dropped, or stays open as it was opened
@@ -29,8 +29,8 @@ pub mod FitWord
 pub mod FitSilence
 pub mod FitLaws
 pub mod NoTerminal
-pub mod OneBlock
 pub mod StoreLaws
+pub mod OneBlock
 pub mod StepFrame
 pub mod OtherCells
 pub mod ClosesLaws

@@ -5,7 +5,7 @@
 --     Changes      what both do to related cards leaves them related
 --     Answers      their answers, and how many words are sent
 --     Tail         the same events keep the runs related and bring the same outcomes
---     Acts         what a word can do to an open message
+--     Acts         which words open a message
 --     Stretch      where a stretch of words and silences can lead to
 --     Meeting      where two stretches meet, and that the cards are related there
 --     Opened       a word that opens a message opens it on some card

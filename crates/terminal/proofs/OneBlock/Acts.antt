@@ -1,15 +1,10 @@
--- What a word can do to an open message, by `search` through the tests of rules 1 to 8: a data
--- receive stores below cell 32, and of unjoined words only an own command opens. Assumes nothing.
+-- Which words open a message, by `search` through the tests of rules 1 to 8: of unjoined words only
+-- an own command does. Assumes nothing.
 use mathlib.Core.Path.{_≡_, refl}
 use mathlib.Core.Logic.{_≢_}
 use mathlib.Core.Bool.{Bool, true, false, cond, not, Bool·beq, or-true}
-use Prim.Native.Nat.{ℕ, _<_}
+use Prim.Native.Nat.{ℕ}
 use native.Mathlib.Omega.{arith}
-use lib.Dec.{leb}
-use borrow.Author.Tests.{leb-false}
-use Rattle.bus.specs.declared.kind.Kind.the-variants.{Receive}
-use Rattle.bus.specs.Command.{wordsOf}
-use Rattle.bus.specs.Kind.{kindOf}
 use Rattle.message.specs.declared.format.Format.{Format}
 use Rattle.message.specs.declared.judge.WordAct.{WordAct}
 use Rattle.message.specs.declared.judge.WordAct.the-variants.{
@@ -20,7 +15,6 @@ use Rattle.message.specs.declared.judge.WordAct.the-variants.{
   TakeStatus,
   Fault,
   Supersede,
-  Drop,
 }
 use Rattle.message.specs.declared.state.Stage.{Stage}
 use Rattle.message.specs.declared.state.Stage.the-variants.{
@@ -33,7 +27,7 @@ use Rattle.message.specs.declared.state.OpenMessage.{OpenMessage}
 use Rattle.message.specs.declared.state.Message.{Message}
 use Rattle.message.specs.declared.state.Message.the-variants.{Idle, Open}
 use Rattle.message.specs.declared.state.Word.{Word}
-use Rattle.message.specs.Format.{formatBy, formatOf}
+use Rattle.message.specs.Format.{formatOf}
 use Rattle.message.specs.Words.{
   ownCommand,
   inData,
@@ -46,72 +40,6 @@ use Rattle.terminal.specs.State.{Card}
 use Rattle.terminal.specs.Event.{word, none, keeping, afresh, openedBy}
 use Rattle.terminal.specs.WordStep.{wordDone, wordMet, wordStep}
 use Rattle.terminal.specs.Machine.{step}
-use Rattle.terminal.proofs.OneBlock.Answers.{words-at-most}
-
--- ---- where a word is stored
-
-pub data Bounded (taken : ℕ) : WordAct → Type 0 where
-  ignores : Bounded taken Ignore
-  stores : {next : ℕ} → taken < 32 → Bounded taken (Store next)
-  checks : {next : ℕ} → Bounded taken (Check next)
-  takes-second : {value : ℕ} → Bounded taken (TakeSecond value)
-  takes-status : Bounded taken TakeStatus
-  faults : {code : ℕ} → Bounded taken (Fault code)
-  supersedes : Bounded taken Supersede
-  drops : Bounded taken Drop
-
-bounded-if : {taken : ℕ} {test : Bool} {act other : WordAct}
-    → (test ≡ true → Bounded taken act) → (test ≡ false → Bounded taken other)
-    → Bounded taken (cond test act other)
-bounded-if {test = true} holds fails = holds refl
-bounded-if {test = false} holds fails = fails refl
-
-ruleset bounded = (
-  ignores,
-  checks,
-  takes-second,
-  takes-status,
-  faults,
-  supersedes,
-  drops,
-  bounded-if,
-)
-
-module _ (message : OpenMessage) (receives : kindOf (message .command) ≡ Receive) where
-  -- a word is stored only where one is wanted, and at most 32 are
-  wanted-below : leb (formatOf (message .command) .takes) (message .taken) ≡ false
-      → message .taken < 32
-  unfolding formatBy
-  wanted-below wanted =
-      let more : leb (formatBy Receive (message .command) .takes) (message .taken) ≡ false =
-      rw receives at wanted in
-      omega (
-        arith,
-        leb-false (wordsOf (message .command)) (message .taken) more,
-        words-at-most (message .command),
-      )
-
-  bounded-data : (station : ℕ) (heard : Word)
-      → Bounded (message .taken) (inData station (formatOf (message .command)) message heard)
-  unfolding inData
-  bounded-data station heard = search (bounded, stores, wanted-below) depth 14
-
-  bounded-stage : (stage : Stage) (station : ℕ) (heard : Word)
-      → Bounded (message .taken)
-      (wordInStage stage station (formatOf (message .command)) message heard)
-  unfolding inSecondCommand inAwaitingStatus
-  bounded-stage Data station heard = bounded-data station heard
-  bounded-stage SecondCommand station heard = search bounded depth 12
-  bounded-stage AwaitingStatus station heard = search bounded depth 12
-  bounded-stage Skipping station heard = ignores
-
-  pub bounded-word : (station flags : ℕ) (heard : Word)
-      → Bounded (message .taken)
-      (onWord station flags (formatOf (message .command)) message heard)
-  unfolding onWord
-  bounded-word station flags heard =
-      let in-stage = bounded-stage (message .stage) station heard in
-      search bounded depth 12
 
 -- ---- which words open
 

@@ -3,7 +3,7 @@
 use mathlib.Core.Path.{_≡_, refl}
 use mathlib.Core.Bool.{Bool, true, false, cond}
 use mathlib.Core.List.{List, [], _∷_}
-use Prim.Native.Nat.{ℕ}
+use Prim.Native.Nat.{ℕ, _<_}
 use Rattle.bus.specs.declared.kind.Kind.the-variants.{Receive}
 use Rattle.bus.specs.Kind.{kindOf}
 use Rattle.bus.specs.Status.{withoutError, withError}
@@ -63,7 +63,8 @@ use Rattle.terminal.proofs.OneBlock.Agreement.{
   agree-service,
   both-linked,
 }
-use Rattle.terminal.proofs.OneBlock.Acts.{Bounded, stores, bounded-word, opens-something}
+use Rattle.terminal.proofs.StoreLaws.{stores-data}
+use Rattle.terminal.proofs.OneBlock.Acts.{opens-something}
 
 -- memory after the closing, but for the cells that it costs
 abbrev pub linkedBy : OpenMessage → List ℕ → List ℕ
@@ -135,15 +136,17 @@ module _ {Spent : ℕ → Type 0} (start : Card) (message : OpenMessage)
         (is-gone (start .core .status) refl (agree-closed _ time))
 
     -- each act of a word that opens nothing
-    span-word-done : (act : WordAct) (heard : Word) → Bounded taken act
+    span-word-done : (act : WordAct) (heard : Word)
+        → ((next : ℕ) → act ≡ Store next → taken < 32)
         → wordDone act (formatOf (message .command)) further-on heard here .opened ≡ none
         → Span Spent start message
         (wordDone act (formatOf (message .command)) further-on heard here .card)
     unfolding wordDone further withMessage
     span-word-done Ignore heard bounded quiet = is-open stage second taken agree
-    span-word-done (Store next) heard (stores below) quiet =
+    span-word-done (Store next) heard bounded quiet =
         is-open Data second next
-        (agree-trans agree (agree-data (message .block) taken (heard .value) spent below ram))
+        (agree-trans agree
+        (agree-data (message .block) taken (heard .value) spent (bounded next refl) ram))
     span-word-done (Check next) heard bounded quiet = is-open Data second next agree
     span-word-done (TakeSecond value) heard bounded quiet =
         is-open SecondCommand (Command value) taken agree
@@ -181,8 +184,8 @@ module _ {Spent : ℕ → Type 0} (start : Card) (message : OpenMessage)
       (onWord (start .core .station) (start .core .flags) (formatOf (message .command))
       (further stage second taken message) heard)
       heard
-      (bounded-word (further stage second taken message) receives (start .core .station)
-      (start .core .flags) heard)
+      (λ next judged. stores-data start (further stage second taken message) heard next judged
+      .data-cell)
       quiet
   span-word heard quiet (is-gone {ram} status but agree) =
       span-own (ownCommand (start .core .station) (start .core .flags) heard) heard
