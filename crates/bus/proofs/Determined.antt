@@ -26,6 +26,8 @@ use Rattle.bus.proofs.status.Status.word.Kinds as status-word-kinds
 use Rattle.bus.proofs.status.Status.word.Reads as status-word-reads
 use Rattle.bus.proofs.status.with_error.Kinds as with-error-kinds
 use Rattle.bus.proofs.status.with_error.Reads as with-error-reads
+use Rattle.bus.proofs.word.word_of.Kinds as word-of-kinds
+use Rattle.bus.proofs.word.word_of.Reads as word-of-reads
 
 pub address : Determined 0 address-kinds.ps address-kinds.r address-reads.Post
 address κs arguments result result′ exit exit′ = same
@@ -65,3 +67,6 @@ status-word κs arguments result result′ exit exit′ = same
 
 pub with-error : Determined 0 with-error-kinds.ps with-error-kinds.r with-error-reads.Post
 with-error κs arguments result result′ exit exit′ = same
+
+pub word-of : Determined 0 word-of-kinds.ps word-of-kinds.r word-of-reads.Post
+word-of κs arguments result result′ exit exit′ = same

@@ -22,7 +22,7 @@ use Rattle.message.specs.declared.state.Stage.the-variants.{
   Skipping,
 }
 use Rattle.message.specs.declared.state.OpenMessage.{OpenMessage}
-use Rattle.message.specs.declared.state.Word.{Word}
+use Rattle.bus.specs.declared.word.Word.{Word}
 use Rattle.message.specs.Message.{secondOf}
 use Rattle.message.specs.Words.{ownCommand}
 use Rattle.message.specs.Words.{

@@ -24,7 +24,7 @@ use Rattle.message.specs.declared.state.Stage.the-variants.{
   Skipping,
 }
 use Rattle.message.specs.declared.state.OpenMessage.{OpenMessage}
-use Rattle.message.specs.declared.state.Word.{Word}
+use Rattle.bus.specs.declared.word.Word.{Word}
 use Rattle.message.specs.Message.{hasSecond, secondOf}
 
 -- ---- own commands

@@ -18,8 +18,8 @@ use crate::format::Format;
 use crate::state;
 use crate::state::OpenMessage;
 use crate::state::Stage;
-use crate::state::Word;
 use bus::command;
+use bus::word::Word;
 
 pub enum WordAct {
     // nothing

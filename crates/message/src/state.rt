@@ -1,4 +1,4 @@
-// An open message, and the words that it meets.
+// An open message.
 ghost use mathlib.Core.Path.{_≡_};
 ghost use Rattle.message.specs.Message.{further, movedMessage, hasSecond, secondOf};
 
@@ -44,18 +44,6 @@ pub struct OpenMessage {
 pub enum Message {
     Idle,
     Open(OpenMessage),
-}
-
-// A word from the bus, decoded.
-pub struct Word {
-    // line B
-    pub line: bool,
-    // command sync
-    pub sync: bool,
-    pub sound: bool,
-    pub joined: bool,
-    pub value: u16,
-    pub time: u32,
 }
 
 impl OpenMessage {

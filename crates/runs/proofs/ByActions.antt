@@ -13,7 +13,7 @@ use Rattle.rules.proofs.Halves.{first-of-both, second-of-both}
 use Rattle.card.specs.Memory.{cardWords}
 use Rattle.queue.specs.Queue.{emptyQueue}
 use Rattle.terminal.specs.State.{card, coreAtSetup}
-use Rattle.terminal.specs.Actions.{After}
+use Rattle.actions.specs.Actions.{After}
 use Rattle.recording.specs.declared.Reading.{Reading}
 use Rattle.recording.specs.declared.Reading.the-variants.{Taken, End, Refused}
 use Rattle.recording.specs.Bytes.{byteAt}

@@ -14,19 +14,20 @@ use Rattle.message.specs.declared.state.Second.the-variants.{Absent}
 use Rattle.message.specs.declared.state.Stage.the-variants.{Data}
 use Rattle.message.specs.declared.state.OpenMessage.{OpenMessage}
 use Rattle.message.specs.declared.state.Message.the-variants.{Open}
-use Rattle.message.specs.declared.state.Word.{Word}
-use Rattle.terminal.specs.State.{Card, card, terminalAtSetup}
+use Rattle.bus.specs.declared.word.Word.{Word}
+use Rattle.queue.specs.Queue.{emptyQueue}
+use Rattle.terminal.specs.State.{Card, card, coreAtSetup}
 use Rattle.terminal.specs.Event.{Event, word, queueRead, tableMove, afresh}
 use Rattle.terminal.specs.Machine.{step, run}
-use Rattle.terminal.specs.Actions.{wordOf}
-use Rattle.terminal.specs.Closes.{
+use Rattle.bus.specs.Word.{wordOf}
+use Rattle.terminal_laws.specs.Closes.{
   OpenWithBlock,
   Closes,
   by-fault,
   by-superseding,
   by-sound-end,
 }
-use Rattle.terminal.specs.Written.{
+use Rattle.terminal_laws.specs.Written.{
   tableAddress,
   OnBus,
   a-word,
@@ -34,7 +35,7 @@ use Rattle.terminal.specs.Written.{
   a-queue-read,
   OtherCell,
 }
-use Rattle.terminal.specs.Chain.{
+use Rattle.terminal_laws.specs.Chain.{
   linkOf,
   tableWordOf,
   ChainCloses,
@@ -42,8 +43,8 @@ use Rattle.terminal.specs.Chain.{
   Untouched,
   OpenIn,
 }
-use Rattle.terminal.proofs.OtherCells.{action-may-write-nothing, idle-may-write-nothing}
-use Rattle.terminal.proofs.ChainLaws.{chain-moves-on, superseding-takes, next-opening-takes}
+use Rattle.terminal_laws.proofs.OtherCells.{action-may-write-nothing, idle-may-write-nothing}
+use Rattle.terminal_laws.proofs.ChainLaws.{chain-moves-on, superseding-takes, next-opening-takes}
 use Rattle.runs.proofs.Telling.{
   runs,
   unsoundA,
@@ -61,7 +62,7 @@ use Rattle.runs.proofs.Telling.{
 unfoldable small : ℕ → List Event → Card
 small words events =
     run events
-    (card (terminalAtSetup 5 1 0 .core) (terminalAtSetup 5 1 0 .queue) (replicate words 0))
+    (card (coreAtSetup 5 1 0) emptyQueue (replicate words 0))
 
 -- four blocks: table cell 3 names block 2, whose link is 4003
 abbrev fourBlocks : List Event → Card

@@ -16,7 +16,6 @@ use Rattle.terminal.specs.State.{
   withSwitches,
   withMessage,
   coreAtSetup,
-  terminalAtSetup,
 }
 use Rattle.message.specs.Message.{further, movedMessage}
 use Rattle.message.specs.Format.{formatBy}
@@ -49,8 +48,8 @@ use Rattle.terminal.specs.Machine.{
   run,
 }
 use Rattle.message.specs.Fitness.{fitOpen}
-use Rattle.terminal.specs.Fitness.{fitCore, fitTerminal}
-use Rattle.terminal.specs.Actions.{
+use Rattle.terminal.specs.Fitness.{fitCore}
+use Rattle.actions.specs.Actions.{
   withMemory,
   withoutMemory,
   wordAction,
@@ -58,6 +57,7 @@ use Rattle.terminal.specs.Actions.{
   hostWriteAction,
   readQueueAction,
   moveTableAction,
+  terminalAtSetup,
   setFlagsAction,
   setupAction,
 }
@@ -108,7 +108,7 @@ unfolding queueReadStep hostWriteStep tableMoveStep flagsWriteStep step run
 hostSteps = 0
 
 fitness : ℕ
-unfolding fitOpen fitCore fitTerminal
+unfolding fitOpen fitCore
 fitness = 0
 
 actions : ℕ

@@ -9,7 +9,7 @@ use Rattle.terminal.specs.declared.state.Reply.the-variants.{Silent, Status}
 use Rattle.terminal.specs.State.{Card, card, coreAtSetup}
 use Rattle.terminal.specs.Event.{tableMove, flagsWrite, replied, queueWord}
 use Rattle.terminal.specs.Machine.{run}
-use Rattle.terminal.specs.Actions.{
+use Rattle.actions.specs.Actions.{
   after,
   wordAction,
   silenceAction,

@@ -12,7 +12,7 @@ use Rattle.terminal.specs.State.{Card}
 use Rattle.terminal.specs.Reply.{replyWords}
 use Rattle.terminal.specs.Event.{Event, silence, replied}
 use Rattle.terminal.specs.Machine.{step}
-use Rattle.terminal.proofs.ReplyLaws.{words-of-the-silence}
+use Rattle.terminal_laws.proofs.ReplyLaws.{words-of-the-silence}
 use Rattle.runs.proofs.Telling.{
   runs,
   put,

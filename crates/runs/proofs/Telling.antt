@@ -9,11 +9,12 @@ use Rattle.card.specs.Memory.{cardWords, wordAddress, cellAt}
 use Rattle.terminal.specs.declared.state.Shut.{Shut}
 use Rattle.message.specs.declared.state.Message.{Message}
 use Rattle.message.specs.declared.state.Message.the-variants.{Idle, Open}
-use Rattle.terminal.specs.State.{Card, card, terminalAtSetup}
+use Rattle.queue.specs.Queue.{emptyQueue}
+use Rattle.terminal.specs.State.{Card, card, coreAtSetup}
 use Rattle.terminal.specs.declared.state.Answer.{Answer}
 use Rattle.terminal.specs.Event.{Event, word, silence, hostWrite, Outcome, quietly}
 use Rattle.terminal.specs.Machine.{step, run}
-use Rattle.terminal.specs.Actions.{wordOf}
+use Rattle.bus.specs.Word.{wordOf}
 use Rattle.runs.proofs.Machine.{machine}
 
 -- ---- words and silences
@@ -92,7 +93,7 @@ code18 = commandA 0x2C12 0x78 ∷ silenceA 0x8C ∷ []
 -- station 5, table block 1, no flags, over a memory of zeros
 unfoldable pub atSetup : Card
 atSetup =
-    card (terminalAtSetup 5 1 0 .core) (terminalAtSetup 5 1 0 .queue) (replicate cardWords 0)
+    card (coreAtSetup 5 1 0) emptyQueue (replicate cardWords 0)
 
 -- that card with five chains, each of which wants the queue and links its block to the next one:
 --     receive, subaddress 3     table cell 3     block 2, then 3

@@ -20,7 +20,7 @@ use Rattle.terminal.specs.declared.state.Core.{Core}
 use Rattle.terminal.specs.declared.state.Reply.the-variants.{Silent}
 use Rattle.terminal.specs.State.{Card, card, withStatus, withLast, withMessage, coreAtSetup}
 use Rattle.terminal.specs.Event.{replied, queueWord}
-use Rattle.terminal.specs.Actions.{
+use Rattle.actions.specs.Actions.{
   after,
   wordAction,
   silenceAction,

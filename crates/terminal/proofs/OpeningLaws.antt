@@ -18,7 +18,7 @@ use Rattle.message.specs.declared.state.Stage.the-variants.{Data, Skipping}
 use Rattle.message.specs.declared.state.Second.the-variants.{Absent}
 use Rattle.message.specs.declared.state.OpenMessage.{OpenMessage}
 use Rattle.message.specs.declared.state.Message.the-variants.{Open}
-use Rattle.message.specs.declared.state.Word.{Word}
+use Rattle.bus.specs.declared.word.Word.{Word}
 use Rattle.terminal.specs.declared.state.Core.{Core}
 use Rattle.message.specs.Format.{formatBy}
 use Rattle.terminal.specs.State.{withStatus, withLast, withMessage}

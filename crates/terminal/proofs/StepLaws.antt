@@ -21,7 +21,7 @@ use Rattle.message.specs.declared.state.Second.{Second}
 use Rattle.message.specs.declared.state.OpenMessage.{OpenMessage}
 use Rattle.message.specs.declared.state.Message.{Message}
 use Rattle.message.specs.declared.state.Message.the-variants.{Idle, Open}
-use Rattle.message.specs.declared.state.Word.{Word}
+use Rattle.bus.specs.declared.word.Word.{Word}
 use Rattle.terminal.specs.declared.machine.WordDeed.{WordDeed}
 use Rattle.terminal.specs.declared.machine.WordDeed.the-variants as word-deeds
 use Rattle.terminal.specs.declared.state.Core.{Core}

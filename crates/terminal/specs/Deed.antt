@@ -13,7 +13,7 @@ use Rattle.message.specs.declared.state.Second.the-variants.{Command}
 use Rattle.message.specs.declared.state.OpenMessage.{OpenMessage}
 use Rattle.message.specs.declared.state.Message.{Message}
 use Rattle.message.specs.declared.state.Message.the-variants.{Idle, Open}
-use Rattle.message.specs.declared.state.Word.{Word}
+use Rattle.bus.specs.declared.word.Word.{Word}
 use Rattle.message.specs.Message.{further}
 use Rattle.message.specs.Format.{formatOf}
 use Rattle.message.specs.Words.{ownCommand, onWord}

@@ -2,10 +2,10 @@
 -- free. Definitions only. Assumes nothing.
 use mathlib.Core.Bool.{Bool, _&&_}
 use lib.Dec.{leb}
-use Rattle.message.specs.Fitness.{fitMessage}
 use Rattle.queue.specs.Queue.{fitQueue}
+use Rattle.message.specs.Fitness.{fitMessage}
 use Rattle.terminal.specs.declared.state.Core.{Core}
-use Rattle.terminal.specs.declared.state.Terminal.{Terminal}
+use Rattle.terminal.specs.State.{Card}
 
 -- station, table and flags as setup takes them, and the open message, where there is one
 unfoldable pub fitCore : Core → Bool
@@ -13,5 +13,6 @@ fitCore core =
     leb (core .station) 30 && leb (core .table) 255 && leb (core .flags) 63
     && fitMessage (core .message) (core .station)
 
-unfoldable pub fitTerminal : Terminal → Bool
-fitTerminal terminal = fitCore (terminal .core) && fitQueue (terminal .queue)
+-- .. and the queue
+abbrev pub fitCard : Card → Bool
+fitCard old = fitCore (old .core) && fitQueue (old .queue)

@@ -9,13 +9,7 @@
 --     SilenceStep    what silence decides is done
 --     Deed           acts that do alike, in one, as the code does them
 --     Machine        one step for each event, and a run
---     Closes         which events close the open message, and what else becomes of it
---     Written        which cells an event may write
---     Chain          the chain rule: what a closing leaves, and what the next opening takes
---     OneBlock       one broken message costs one block: what that says of two runs
 --     Fitness        refusal 4: which states are fit
---     Refusal        which number refuses, told first, as the code does it
---     Actions        the actions of the library, refusals included
 pub mod State
 pub mod Opening
 pub mod Closing
@@ -25,10 +19,4 @@ pub mod WordStep
 pub mod SilenceStep
 pub mod Deed
 pub mod Machine
-pub mod Closes
-pub mod Written
-pub mod Chain
-pub mod OneBlock
 pub mod Fitness
-pub mod Refusal
-pub mod Actions

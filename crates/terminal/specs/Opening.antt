@@ -16,7 +16,7 @@ use Rattle.message.specs.declared.state.Second.the-variants.{Absent}
 use Rattle.message.specs.declared.state.OpenMessage.{OpenMessage}
 use Rattle.message.specs.declared.state.Message.the-variants.{Open}
 use Rattle.terminal.specs.declared.state.Core.{Core}
-use Rattle.message.specs.declared.state.Word.{Word}
+use Rattle.bus.specs.declared.word.Word.{Word}
 use Rattle.terminal.specs.State.{Card, card, withStatus, withLast, withMessage}
 use Rattle.message.specs.Format.{formatBy}
 

@@ -3,7 +3,6 @@ use mathlib.Core.Bool.{Bool, true, false}
 use mathlib.Core.List.{List}
 use Prim.Native.Nat.{ℕ, _*_, _%_}
 use Rattle.queue.specs.declared.Queue.{Queue}
-use Rattle.queue.specs.Queue.{emptyQueue}
 use Rattle.terminal.specs.declared.state.Shut.{Shut}
 use Rattle.message.specs.declared.state.Stage.{Stage}
 use Rattle.message.specs.declared.state.Second.{Second}
@@ -12,7 +11,6 @@ use Rattle.message.specs.declared.state.OpenMessage.{OpenMessage}
 use Rattle.message.specs.declared.state.Message.{Message}
 use Rattle.message.specs.declared.state.Message.the-variants.{Idle, Open}
 use Rattle.terminal.specs.declared.state.Core.{Core}
-use Rattle.terminal.specs.declared.state.Terminal.{Terminal}
 
 -- everything that an event may change: the terminal, by core and queue, and card memory
 pub record Card : Type 0 where
@@ -22,9 +20,6 @@ pub record Card : Type 0 where
 
 abbrev pub card : Core → Queue → List ℕ → Card
 card core queue ram = record { core = core; queue = queue; ram = ram }
-
-abbrev pub terminal : Core → Queue → Terminal
-terminal core queue = record { core = core; queue = queue }
 
 -- ---- the core with one field set anew
 
@@ -121,6 +116,3 @@ coreAtSetup station table flags =
       inhibit = false;
       message = Idle;
     }
-
-unfoldable pub terminalAtSetup : ℕ → ℕ → ℕ → Terminal
-terminalAtSetup station table flags = terminal (coreAtSetup station table flags) emptyQueue

@@ -98,29 +98,6 @@ fn close_queue(ring: Ring, places: &mut [u16; 256], format: Format, message: Ope
 }
 
 impl Core {
-    fn with_status(mut self, status: u16) -> Core
-        ensures { λ core. ⌜ core ≡ withStatus status self ⌝ }
-    {
-        self.status = status;
-        self
-    }
-
-    pub fn with_message(self, message: Message) -> Core
-        ensures { λ core. ⌜ core ≡ withMessage message self ⌝ }
-    {
-        let shut = self.shut;
-        Core {
-            station: self.station,
-            table: self.table,
-            flags: self.flags,
-            status: self.status,
-            last: self.last,
-            shut: shut,
-            inhibit: self.inhibit,
-            message: message,
-        }
-    }
-
     // A reply is given unless the message was broadcast or its line is shut.
     fn replies(self, message: OpenMessage) -> bool
         ensures { λ given. ⌜ given ≡ replies self message ⌝ }

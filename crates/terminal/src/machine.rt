@@ -14,6 +14,7 @@ use crate::state::Heard;
 use crate::state::Held;
 use crate::state::Reply;
 use bus::kind;
+use bus::word::Word;
 use card::memory;
 use card::place::Block;
 use card::place::Cell;
@@ -26,7 +27,6 @@ use message::state::Message;
 use message::state::OpenMessage;
 use message::state::Second;
 use message::state::Stage;
-use message::state::Word;
 use queue::Ring;
 
 // What a word does to the open message.

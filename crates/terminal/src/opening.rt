@@ -14,6 +14,7 @@ use crate::state::Core;
 use bus::kind;
 use bus::kind::Kind;
 use bus::status::Status;
+use bus::word::Word;
 use card::memory;
 use card::place::Block;
 use card::place::Cell;
@@ -24,7 +25,6 @@ use message::state::Message;
 use message::state::OpenMessage;
 use message::state::Second;
 use message::state::Stage;
-use message::state::Word;
 
 // Busy: flag 1 or, with a block, the table word's bit 15.
 fn busy_at(format: Format, flags: u16, entry: u16) -> bool

@@ -1,6 +1,15 @@
-// What the terminal holds. Every action takes it by value and hands it back.
+// What the terminal holds, a setter for each part that is set alone, and setup.
+ghost use mathlib.Core.Path.{_≡_};
+ghost use Rattle.message.specs.Message.{movedMessage};
+ghost use Rattle.terminal.specs.State.{
+  withTable,
+  withFlags,
+  withStatus,
+  withMessage,
+  coreAtSetup,
+};
+use message::state;
 use message::state::Message;
-use queue::Queue;
 use queue::Ring;
 
 // The lines that are shut.
@@ -21,11 +30,6 @@ pub struct Core {
     pub shut: Shut,
     pub inhibit: bool,
     pub message: Message,
-}
-
-pub struct Terminal {
-    pub core: Core,
-    pub queue: Queue,
 }
 
 // What a run carries by value from field to field. The queue's places and the RAM are lent.
@@ -53,4 +57,63 @@ pub enum Answer {
 pub struct Heard {
     pub held: Held,
     pub reply: Reply,
+}
+
+impl Core {
+    pub(crate) fn with_status(mut self, status: u16) -> Core
+        ensures { λ core. ⌜ core ≡ withStatus status self ⌝ }
+    {
+        self.status = status;
+        self
+    }
+
+    pub fn with_message(self, message: Message) -> Core
+        ensures { λ core. ⌜ core ≡ withMessage message self ⌝ }
+    {
+        let shut = self.shut;
+        Core {
+            station: self.station,
+            table: self.table,
+            flags: self.flags,
+            status: self.status,
+            last: self.last,
+            shut: shut,
+            inhibit: self.inhibit,
+            message: message,
+        }
+    }
+
+    pub fn move_table(self, table: u16) -> Core
+        ensures { λ core. ⌜ core
+            ≡ withTable table (withMessage (movedMessage (self .message)) self) ⌝ }
+    {
+        let old = self.message;
+        let message = state::moved_message(old);
+        let mut core = self.with_message(message);
+        core.table = table;
+        core
+    }
+
+    pub fn set_flags(mut self, flags: u16) -> Core
+        ensures { λ core. ⌜ core ≡ withFlags flags self ⌝ }
+    {
+        self.flags = flags;
+        self
+    }
+
+    // Remembered status = station × 2,048; all else zero, nothing open. A station has five bits.
+    pub fn at_setup(station: u16, table: u16, flags: u16) -> Core
+        ensures { λ core. ⌜ core ≡ coreAtSetup station table flags ⌝ }
+    {
+        Core {
+            station: station,
+            table: table,
+            flags: flags,
+            status: station % 32 * 2048,
+            last: 0,
+            shut: Shut { a: false, b: false },
+            inhibit: false,
+            message: Message::Idle,
+        }
+    }
 }

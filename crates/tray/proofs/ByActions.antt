@@ -13,14 +13,14 @@ use lib.Dec.{leb}
 use lib.ListN.{length, drop, length-drop}
 use borrow.Author.Tests.{eq-eqb, le-leb}
 use Rattle.card.specs.Memory.{cardWords}
-use Rattle.terminal.specs.State.{Card, terminalAtSetup}
+use Rattle.terminal.specs.State.{Card}
 use Rattle.terminal.specs.Event.{Event, Shown, shown}
 use Rattle.terminal.specs.Machine.{step, queueReadStep, tableMoveStep, flagsWriteStep}
-use Rattle.terminal.specs.Actions.{
+use Rattle.terminal.specs.Fitness.{fitCard}
+use Rattle.actions.specs.Actions.{
   After,
   after,
   took,
-  fitCard,
   withMemory,
   withoutMemory,
   wordAction,
@@ -29,6 +29,7 @@ use Rattle.terminal.specs.Actions.{
   readQueueAction,
   moveTableAction,
   setFlagsAction,
+  terminalAtSetup,
   setupAction,
 }
 use Rattle.recording.specs.declared.Field.{Field}

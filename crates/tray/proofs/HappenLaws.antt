@@ -11,7 +11,7 @@ use lib.Seq.{sets}
 use Rattle.queue.specs.declared.Ring.{Ring}
 use Rattle.queue.specs.declared.RingRead.{RingRead}
 use Rattle.queue.specs.Queue.{queue, emptyQueue, readFrom}
-use Rattle.message.specs.declared.state.Word.{Word}
+use Rattle.bus.specs.declared.word.Word.{Word}
 use Rattle.message.specs.Message.{movedMessage}
 use Rattle.terminal.specs.declared.state.Core.{Core}
 use Rattle.terminal.specs.declared.state.Held.{Held}
@@ -28,8 +28,8 @@ use Rattle.terminal.specs.Machine.{
   tableMoveStep,
   flagsWriteStep,
 }
-use Rattle.terminal.specs.Actions.{wordOf}
-use Rattle.terminal.proofs.ActionLaws.{words-are-silent}
+use Rattle.bus.specs.Word.{wordOf}
+use Rattle.terminal.proofs.SilentLaws.{words-are-silent}
 use Rattle.recording.specs.declared.Field.{Field}
 use Rattle.recording.specs.declared.Field.the-variants as field
 use Rattle.recording.specs.Bytes.{wordsAt, withWords}

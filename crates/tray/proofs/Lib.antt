@@ -16,6 +16,7 @@
 --     SoundPieces   a call does so, and a recording that is read in pieces
 --     RefusedAlike  what the reader refuses for its value, the action refuses by the same number
 --     ByActions     a run is what the library's actions make
+--     ReplyLaws     the words that the library's silence sends
 --     AcceptedLaws  what bytes tell, alone and one behind the other
 --     CutLaws       accepted bytes can be cut at the end of every field
 --     OnwardLaws    a run goes on behind the fields that are taken
@@ -39,6 +40,7 @@ pub mod SoundLaws
 pub mod SoundPieces
 pub mod RefusedAlike
 pub mod ByActions
+pub mod ReplyLaws
 pub mod AcceptedLaws
 pub mod CutLaws
 pub mod OnwardLaws

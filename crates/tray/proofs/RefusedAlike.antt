@@ -11,11 +11,11 @@ use lib.ListN.{length}
 use borrow.Author.Tests.{eqb-true, eq-eqb, le-leb, lt-leb, lt-ltb, le-ltb, not-false}
 use Rattle.card.specs.Memory.{cardWords}
 use Rattle.terminal.specs.State.{Card}
-use Rattle.terminal.specs.declared.actions.Done.{Done}
+use Rattle.actions.specs.declared.Done.{Done}
 use Rattle.terminal.specs.Event.{Event}
-use Rattle.terminal.specs.Actions.{
+use Rattle.terminal.specs.Fitness.{fitCard}
+use Rattle.actions.specs.Actions.{
   After,
-  fitCard,
   withMemory,
   withoutMemory,
   wordAction,

@@ -8,7 +8,7 @@ use Prim.Native.Nat.{ℕ}
 use lib.ListN.{length}
 use borrow.Author.Tests.{not-false}
 use Rattle.card.specs.Memory.{cardWords}
-use Rattle.terminal.specs.State.{Card, terminalAtSetup}
+use Rattle.terminal.specs.State.{Card}
 use Rattle.terminal.specs.Event.{
   word,
   silence,
@@ -17,9 +17,11 @@ use Rattle.terminal.specs.Event.{
   tableMove,
   flagsWrite,
 }
-use Rattle.terminal.proofs.FitParts.{FitCard, fit-card-parts, fit-card-whole}
-use Rattle.terminal.proofs.FitLaws.{fit-at-setup, FitEvent, fit-stays-fit}
-use Rattle.terminal.proofs.StepFrame.{step-writes-only}
+use Rattle.terminal_laws.proofs.FitParts.{FitCard, fit-card-parts, fit-card-whole}
+use Rattle.terminal_laws.proofs.FitLaws.{FitEvent, fit-stays-fit}
+use Rattle.terminal_laws.proofs.StepFrame.{step-writes-only}
+use Rattle.actions.specs.Actions.{terminalAtSetup}
+use Rattle.actions.proofs.SetupLaws.{fit-at-setup}
 use Rattle.recording.specs.declared.Field.{Field}
 use Rattle.recording.specs.declared.Field.the-variants.{
   Setup,

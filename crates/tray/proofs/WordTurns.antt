@@ -12,7 +12,7 @@ use Rattle.queue.specs.Queue.{queue}
 use Rattle.message.specs.declared.state.Stage.the-variants.{Data}
 use Rattle.message.specs.declared.state.OpenMessage.{OpenMessage}
 use Rattle.message.specs.declared.state.Message.the-variants.{Open}
-use Rattle.message.specs.declared.state.Word.{Word}
+use Rattle.bus.specs.declared.word.Word.{Word}
 use Rattle.message.specs.Message.{further}
 use Rattle.message.specs.Format.{formatOf}
 use Rattle.message.specs.Words.{ownCommand, inData, onWord}
@@ -20,7 +20,7 @@ use Rattle.terminal.specs.State.{Card, card, withMessage}
 use Rattle.terminal.specs.Event.{quietly}
 use Rattle.terminal.specs.WordStep.{wordDone, wordStep}
 use Rattle.terminal.specs.Machine.{step}
-use Rattle.terminal.specs.Actions.{wordOf}
+use Rattle.bus.specs.Word.{wordOf}
 use Rattle.recording.specs.declared.Found.{Found}
 use Rattle.recording.specs.declared.Found.the-variants.{Value, Nothing}
 use Rattle.recording.specs.Bytes.{timeAt}

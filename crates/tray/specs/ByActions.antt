@@ -7,12 +7,12 @@ use mathlib.Core.List.{List}
 use Prim.Native.Nat.{ℕ, _+_}
 use lib.Dec.{eqb}
 use lib.ListN.{drop}
-use Rattle.terminal.specs.declared.actions.Done.{Done}
+use Rattle.actions.specs.declared.Done.{Done}
 use Rattle.terminal.specs.declared.state.Reply.the-variants.{Silent}
 use Rattle.terminal.specs.declared.state.Answer.{Answer}
-use Rattle.terminal.specs.State.{Card, card, terminal}
+use Rattle.terminal.specs.State.{Card, card}
 use Rattle.terminal.specs.Event.{replied, shown}
-use Rattle.terminal.specs.Actions.{
+use Rattle.actions.specs.Actions.{
   After,
   after,
   alone,
@@ -22,6 +22,7 @@ use Rattle.terminal.specs.Actions.{
   readQueueAction,
   moveTableAction,
   setFlagsAction,
+  terminal,
   setupAction,
 }
 use Rattle.recording.specs.declared.Field.{Field}

@@ -20,7 +20,7 @@ use Rattle.terminal.specs.Event.{
   seen,
 }
 use Rattle.terminal.specs.Machine.{step}
-use Rattle.terminal.specs.Actions.{wordOf}
+use Rattle.bus.specs.Word.{wordOf}
 use Rattle.recording.specs.declared.Field.{Field}
 use Rattle.recording.specs.declared.Field.the-variants.{
   Setup,

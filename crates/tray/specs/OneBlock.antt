@@ -13,11 +13,11 @@ use Rattle.queue.specs.Queue.{emptyQueue}
 use Rattle.message.specs.declared.state.OpenMessage.{OpenMessage}
 use Rattle.message.specs.declared.state.Message.{Message}
 use Rattle.message.specs.declared.state.Message.the-variants.{Open}
-use Rattle.message.specs.declared.state.Word.{Word}
+use Rattle.bus.specs.declared.word.Word.{Word}
 use Rattle.terminal.specs.State.{Card, card, coreAtSetup}
 use Rattle.terminal.specs.Event.{Event, word, seen}
 use Rattle.terminal.specs.Machine.{step, run}
-use Rattle.terminal.specs.OneBlock.{stillBefore, Alike, SameAfter, ThatBlock, BrokenMessage}
+use Rattle.terminal_laws.specs.OneBlock.{stillBefore, Alike, SameAfter, ThatBlock, BrokenMessage}
 use Rattle.lines.specs.Lines.{statusLine, endLine}
 use Rattle.tray.specs.Happening.{Happening, setup, event}
 use Rattle.tray.specs.Run.{counted, shownLine, trayOver, whole, wholeFrom}

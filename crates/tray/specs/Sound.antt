@@ -3,7 +3,7 @@ use mathlib.Core.Path.{_≡_}
 use mathlib.Core.Bool.{true}
 use lib.ListN.{length}
 use Rattle.card.specs.Memory.{cardWords}
-use Rattle.terminal.specs.Actions.{fitCard}
+use Rattle.terminal.specs.Fitness.{fitCard}
 use Rattle.tray.specs.Run.{Tray}
 
 -- the memory is the card's 16,384 words and, once a setup has been read, the terminal is fit

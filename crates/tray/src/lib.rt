@@ -32,12 +32,12 @@ ghost use Rattle.tray.specs.Held.{
 mod print;
 mod row;
 
+use bus::word;
 use card::host;
 use queue::Ring;
 use recording::Field;
 use recording::Reading;
 use std::num;
-use terminal::actions;
 use terminal::state::Answer;
 use terminal::state::Core;
 use terminal::state::Held;
@@ -170,8 +170,8 @@ fn happen(
             silently(new, next)
         }
         Field::Word { marks, value, time } => {
-            let word = actions::word_of(marks, value, time);
-            let left = core.word(ring, places, ram, word);
+            let heard = word::word_of(marks, value, time);
+            let left = core.word(ring, places, ram, heard);
             Happened {
                 held: left,
                 answer: Answer::Replied(Reply::Silent),

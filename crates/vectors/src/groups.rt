@@ -1,8 +1,8 @@
 // The walk of the cases: group by group, and case by case within a group.
-use crate::actions;
 use crate::messages;
 use crate::notation;
 use crate::recordings;
+use crate::refusals;
 use crate::report;
 use crate::report::Score;
 use crate::setups;
@@ -19,7 +19,7 @@ fn row_holds(kind: u8, row: &[u8]) -> bool {
         b'q' => waiting::holds(row),
         b's' => setups::holds(row),
         b't' => states::holds(row),
-        b'a' => actions::holds(row),
+        b'a' => refusals::holds(row),
         _ => false,
     }
 }

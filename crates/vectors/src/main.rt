@@ -3,12 +3,12 @@
 // data, on standard input: as code, or as bytes of a literal, they would take long to check and say
 // no more. `notation` says how they are written, `groups` walks them. `recordings` runs those that
 // are recordings; the others call the library's actions: `messages` whole messages, `waiting` the
-// queue, and `setups`, `states` and `actions` refusals.
-mod actions;
+// queue, and `setups`, `states` and `refusals` what is refused.
 mod groups;
 mod messages;
 mod notation;
 mod recordings;
+mod refusals;
 mod report;
 mod setups;
 mod states;

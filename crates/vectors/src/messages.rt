@@ -14,11 +14,11 @@
 //    10  every other cell that the message writes, as address and word
 use crate::notation;
 use crate::traffic;
+use actions::Answered;
+use actions::Terminal;
 use card::sent;
 use std::num;
-use terminal::actions::Answered;
 use terminal::state::Reply;
-use terminal::state::Terminal;
 
 // Where the cells of a row begin, in bytes.
 const CELLS: usize = 20;

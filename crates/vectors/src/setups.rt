@@ -1,8 +1,8 @@
 // Setup: refusals 2, 3 and 8 in this order; what is taken is as 01 has it at setup. The words of a
 // row: station, table block, flags, refusal.
 use crate::notation;
-use terminal::actions::Done;
-use terminal::state::Terminal;
+use actions::Done;
+use actions::Terminal;
 
 // All but station, table and flags is zero, save the remembered status.
 fn is_set_up(terminal: Terminal, station: u16, table: u16, flags: u16) -> bool {

@@ -2,8 +2,9 @@
 // takes one. The words of a row: station, table block, flags; queue start, count, and place 200;
 // the open command, its block, table block and words taken, the second command (0 for none), the
 // stage; the refusal.
-use crate::actions;
 use crate::notation;
+use crate::refusals;
+use actions::Terminal;
 use message::state::Message;
 use message::state::OpenMessage;
 use message::state::Second;
@@ -12,7 +13,6 @@ use queue::Queue;
 use queue::Ring;
 use terminal::state::Core;
 use terminal::state::Shut;
-use terminal::state::Terminal;
 
 // Stages, 0 for nothing open.
 const DATA: u16 = 1;
@@ -103,7 +103,7 @@ fn terminal_of(row: &[u8]) -> Terminal {
 
 // Each action has arguments that it takes.
 fn action_holds(state: Terminal, ram: &mut [u16], action: u16, wanted: u16) -> bool {
-    let done = actions::perform(state, ram, action, 1, 1);
+    let done = refusals::perform(state, ram, action, 1, 1);
     done.refusal as u16 == wanted
 }
 
@@ -114,7 +114,7 @@ pub(crate) fn holds(row: &[u8]) -> bool {
     let mut cells: [u16; 16384] = [0; 16384];
     let ram: &mut [u16] = &mut cells;
     let mut right = true;
-    for action in actions::WORD..actions::PART {
+    for action in refusals::WORD..refusals::PART {
         right = right & action_holds(state, ram, action, wanted);
     }
     right

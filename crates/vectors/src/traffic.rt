@@ -2,8 +2,8 @@
 // and the card compared cell by cell.
 ghost use Rattle.vectors.specs.Same.{Compared};
 use crate::notation;
+use actions::Terminal;
 use io;
-use terminal::state::Terminal;
 
 // Station 5, table block 1.
 pub(crate) fn fresh(flags: u16) -> Terminal {

@@ -4,7 +4,7 @@
 // mark, or 0.
 use crate::notation;
 use crate::traffic;
-use terminal::state::Terminal;
+use actions::Terminal;
 
 // A message that sends one word.
 fn message(terminal: Terminal, ram: &mut [u16]) -> Terminal {

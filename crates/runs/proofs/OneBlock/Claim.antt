@@ -7,13 +7,13 @@ use Prim.Native.Nat.{ℕ, _/_}
 use native.Mathlib.Omega.{arith}
 use Rattle.bus.specs.declared.kind.Kind.the-variants.{Receive}
 use Rattle.bus.specs.Kind.{kindOf}
-use Rattle.message.specs.declared.state.Word.{Word}
+use Rattle.bus.specs.declared.word.Word.{Word}
 use Rattle.terminal.specs.State.{Card}
 use Rattle.terminal.specs.Event.{Event, word, none, keeping, afresh}
 use Rattle.terminal.specs.Machine.{step, run}
-use Rattle.terminal.specs.Actions.{wordOf}
-use Rattle.terminal.specs.OneBlock.{Kept, SameAfter, Calm, Settled, Spared, ThatBlock}
-use Rattle.terminal.proofs.OneBlock.Theorem.{one-block}
+use Rattle.bus.specs.Word.{wordOf}
+use Rattle.terminal_laws.specs.OneBlock.{Kept, SameAfter, Calm, Settled, Spared, ThatBlock}
+use Rattle.terminal_laws.proofs.OneBlock.Theorem.{one-block}
 use Rattle.runs.proofs.Telling.{runs, unsoundA, put, word1, word2, quiet, atSetup}
 
 -- ---- the claim, by what is asked of the command, of the stretches, of their ends and of what

@@ -10,15 +10,15 @@ use lib.ListN.{getD}
 use Rattle.queue.specs.declared.Queue.{Queue}
 use Rattle.message.specs.declared.state.Message.{Message}
 use Rattle.message.specs.declared.state.Message.the-variants.{Idle}
-use Rattle.message.specs.declared.state.Word.{Word}
+use Rattle.bus.specs.declared.word.Word.{Word}
 use Rattle.terminal.specs.declared.state.Reply.the-variants.{Silent, Status, Words}
 use Rattle.terminal.specs.declared.state.Answer.{Answer}
 use Rattle.terminal.specs.declared.state.Answer.the-variants.{Replied}
 use Rattle.terminal.specs.State.{Card}
 use Rattle.terminal.specs.Event.{Event, word, silence, queueRead, none}
 use Rattle.terminal.specs.Machine.{step, run}
-use Rattle.terminal.specs.Actions.{wordOf}
-use Rattle.terminal.specs.OneBlock.{
+use Rattle.bus.specs.Word.{wordOf}
+use Rattle.terminal_laws.specs.OneBlock.{
   SameAnswer,
   same,
   status-but-error,

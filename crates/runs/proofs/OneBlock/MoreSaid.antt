@@ -20,8 +20,8 @@ use Rattle.terminal.specs.declared.state.Answer.the-variants.{Replied}
 use Rattle.terminal.specs.State.{Card}
 use Rattle.terminal.specs.Event.{Event, word}
 use Rattle.terminal.specs.Machine.{step, run}
-use Rattle.terminal.specs.Actions.{wordOf}
-use Rattle.terminal.specs.OneBlock.{
+use Rattle.bus.specs.Word.{wordOf}
+use Rattle.terminal_laws.specs.OneBlock.{
   stillBefore,
   Calm,
   nothing,

@@ -7,7 +7,7 @@ use Prim.Native.Nat.{ℕ}
 use lib.ListN.{getD, replicate}
 use Rattle.card.specs.Memory.{cardWords}
 use Rattle.terminal.specs.Event.{Event, hostWrite, word}
-use Rattle.terminal.specs.OneBlock.{Alike, ThatBlock}
+use Rattle.terminal_laws.specs.OneBlock.{Alike, ThatBlock}
 use Rattle.recording.specs.Field.{lengthFits, fieldAt}
 use Rattle.recording.specs.Reading.{readAt}
 use Rattle.lines.specs.Lines.{statusLine, queueLine, endLine}

@@ -14,7 +14,7 @@ use Rattle.terminal.specs.declared.state.Answer.the-variants.{Replied, QueueWor
 use Rattle.terminal.specs.State.{Card}
 use Rattle.terminal.specs.Event.{Event}
 use Rattle.terminal.specs.Machine.{step}
-use Rattle.terminal.specs.OneBlock.{Spared}
+use Rattle.terminal_laws.specs.OneBlock.{Spared}
 
 -- the block that an answer sends words of is another
 abbrev sendsOther : ℕ → Answer → Bool

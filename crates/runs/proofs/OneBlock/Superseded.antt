@@ -9,8 +9,8 @@ use Rattle.terminal.specs.declared.state.Reply.the-variants.{Silent, Words, Las
 use Rattle.terminal.specs.State.{Card}
 use Rattle.terminal.specs.Event.{Event, word, queueRead, replied, queueWord}
 use Rattle.terminal.specs.Machine.{run}
-use Rattle.terminal.specs.Actions.{wordOf}
-use Rattle.terminal.specs.OneBlock.{
+use Rattle.bus.specs.Word.{wordOf}
+use Rattle.terminal_laws.specs.OneBlock.{
   nothing,
   a-word,
   a-silence,
@@ -19,7 +19,7 @@ use Rattle.terminal.specs.OneBlock.{
   SameAfter,
   BrokenMessage,
 }
-use Rattle.terminal.proofs.OneBlock.Theorem.{one-block}
+use Rattle.terminal_laws.proofs.OneBlock.Theorem.{one-block}
 use Rattle.runs.proofs.OneBlock.Sparing.{sparedFrom, spared-from}
 use Rattle.runs.proofs.OneBlock.Claim.{
   command,

@@ -5,7 +5,7 @@ use mathlib.Core.Path.{_≡_, refl}
 use mathlib.Core.List.{List, [], _∷_}
 use Prim.Native.Nat.{ℕ}
 use native.Mathlib.Omega.{arith}
-use Rattle.message.specs.declared.state.Word.{Word}
+use Rattle.bus.specs.declared.word.Word.{Word}
 use Rattle.terminal.specs.declared.state.Reply.the-variants.{Silent, Status}
 use Rattle.terminal.specs.State.{Card}
 use Rattle.terminal.specs.Event.{
@@ -19,8 +19,8 @@ use Rattle.terminal.specs.Event.{
   queueWord,
 }
 use Rattle.terminal.specs.Machine.{run}
-use Rattle.terminal.specs.Actions.{wordOf}
-use Rattle.terminal.specs.OneBlock.{
+use Rattle.bus.specs.Word.{wordOf}
+use Rattle.terminal_laws.specs.OneBlock.{
   nothing,
   a-word,
   a-silence,
@@ -29,7 +29,7 @@ use Rattle.terminal.specs.OneBlock.{
   SameAfter,
   BrokenMessage,
 }
-use Rattle.terminal.proofs.OneBlock.Theorem.{one-block}
+use Rattle.terminal_laws.proofs.OneBlock.Theorem.{one-block}
 use Rattle.runs.proofs.OneBlock.Sparing.{sparedFrom, spared-from}
 use Rattle.runs.proofs.Telling.{
   runs,

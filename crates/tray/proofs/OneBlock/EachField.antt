@@ -4,11 +4,11 @@ use mathlib.Core.Path.{sym, ap, subst, _∙_}
 use mathlib.Core.Bool.{false}
 use mathlib.Core.List.{List, [], _∷_, _++_, append-assoc}
 use Prim.Native.Nat.{ℕ}
-use Rattle.message.specs.declared.state.Word.{Word}
+use Rattle.bus.specs.declared.word.Word.{Word}
 use Rattle.terminal.specs.State.{Card}
 use Rattle.terminal.specs.Event.{Event}
 use Rattle.terminal.specs.Machine.{step}
-use Rattle.terminal.specs.OneBlock.{Settled, closed, superseded, Spared, BrokenMessage}
+use Rattle.terminal_laws.specs.OneBlock.{Settled, closed, superseded, Spared, BrokenMessage}
 use Rattle.tray.specs.Happening.{Happening, setup}
 use Rattle.tray.specs.Accepted.{Accepted, Cut}
 use Rattle.tray.specs.OneBlock.{events, upTo, cardAfter, BrokenRecording, SameUpTo}

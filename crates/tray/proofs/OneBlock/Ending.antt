@@ -6,7 +6,7 @@ use Prim.Native.Nat.{ℕ}
 use Rattle.terminal.specs.State.{Card}
 use Rattle.terminal.specs.Event.{Event, word}
 use Rattle.terminal.specs.Machine.{step, run}
-use Rattle.terminal.specs.OneBlock.{Alike, Later, SameAfter, Settled, closed, superseded}
+use Rattle.terminal_laws.specs.OneBlock.{Alike, Later, SameAfter, Settled, closed, superseded}
 
 module _ (Spent : ℕ → Type 0) where
   -- cards that are alike before the later events are alike after them

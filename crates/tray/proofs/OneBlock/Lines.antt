@@ -13,7 +13,7 @@ use Rattle.terminal.specs.declared.state.Answer.the-variants.{Replied, QueueWor
 use Rattle.terminal.specs.State.{Card}
 use Rattle.terminal.specs.Event.{Event}
 use Rattle.terminal.specs.Machine.{step}
-use Rattle.terminal.specs.OneBlock.{
+use Rattle.terminal_laws.specs.OneBlock.{
   SameAnswer,
   same as same-answer,
   status-but-error as status-answer,

@@ -6,12 +6,12 @@ use mathlib.Core.List.{List, [], _∷_, _++_, append-assoc}
 use Prim.Native.Nat.{ℕ}
 use lib.ListN.{replicate}
 use Rattle.card.specs.Memory.{cardWords}
-use Rattle.message.specs.declared.state.Word.{Word}
+use Rattle.bus.specs.declared.word.Word.{Word}
 use Rattle.terminal.specs.State.{Card}
 use Rattle.terminal.specs.Event.{Event, word}
 use Rattle.terminal.specs.Machine.{run}
-use Rattle.terminal.specs.OneBlock.{Alike, SameAfter, Settled}
-use Rattle.terminal.proofs.OneBlock.Theorem.{one-block}
+use Rattle.terminal_laws.specs.OneBlock.{Alike, SameAfter, Settled}
+use Rattle.terminal_laws.proofs.OneBlock.Theorem.{one-block}
 use Rattle.tray.specs.Happening.{Happening, setup, event}
 use Rattle.tray.specs.Run.{trayAtStart, Whole, printed}
 use Rattle.tray.specs.Accepted.{begunAfter, Accepted}

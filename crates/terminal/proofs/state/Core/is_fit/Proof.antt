@@ -1,7 +1,7 @@
 -- `terminal::Core::is_fit` meets its contract: its tests are those that the calls answer. Assumes
 -- nothing.
 use borrow.Author.Needs.{needs}
-use Rattle.terminal.proofs.ActionLaws.{fit-core-is}
+use Rattle.terminal.proofs.CoreLaws.{fit-core-is}
 use Rattle.terminal.proofs.state.Core.is_fit.Statement.{statement}
 use Rattle.terminal.proofs.state.Core.is_fit.Tie as tie
 

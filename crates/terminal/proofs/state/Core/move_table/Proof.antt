@@ -2,7 +2,7 @@
 -- nothing.
 use borrow.Author.Needs.{needs}
 use Rattle.terminal.specs.State.{withTable}
-use Rattle.terminal.proofs.ActionLaws.{table-moved}
+use Rattle.terminal.proofs.CoreLaws.{table-moved}
 use Rattle.terminal.proofs.state.Core.move_table.Statement.{statement}
 use Rattle.terminal.proofs.state.Core.move_table.Tie as tie
 

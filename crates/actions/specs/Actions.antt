@@ -1,0 +1,117 @@
+-- The actions of the library, refusals included, in the order 1, 4, 2, 3, 8. A refusal gives its
+-- number and leaves everything as it was given. Definitions only. Assumes nothing.
+use mathlib.Core.Bool.{Bool, cond, not, _&&_}
+use mathlib.Core.List.{List, []}
+use Prim.Native.Nat.{ℕ, _+_}
+use lib.Dec.{eqb, leb, ltb}
+use lib.ListN.{length}
+use Rattle.bus.specs.Word.{wordOf}
+use Rattle.card.specs.Memory.{cardWords}
+use Rattle.queue.specs.declared.Queue.{Queue}
+use Rattle.queue.specs.Queue.{emptyQueue, fitQueue}
+use Rattle.terminal.specs.declared.state.Core.{Core}
+use Rattle.terminal.specs.declared.state.Answer.{Answer}
+use Rattle.terminal.specs.declared.state.Reply.the-variants.{Silent}
+use Rattle.terminal.specs.State.{Card, card, coreAtSetup}
+use Rattle.terminal.specs.Event.{
+  Event,
+  word,
+  silence,
+  queueRead,
+  hostWrite,
+  tableMove,
+  flagsWrite,
+  replied,
+  queueWord,
+  Outcome,
+}
+use Rattle.terminal.specs.Machine.{step}
+use Rattle.terminal.specs.Fitness.{fitCore, fitCard}
+use Rattle.actions.specs.declared.Terminal.{Terminal}
+use Rattle.actions.specs.declared.Done.{Done}
+
+-- what an action leaves: its refusal number, 0 for none, its answer, terminal and memory
+pub record After : Type 0 where
+  pub refusal : ℕ
+  pub answer : Answer
+  pub card : Card
+
+abbrev pub after : ℕ → Answer → Card → After
+after refusal answer new = record { refusal = refusal; answer = answer; card = new }
+
+abbrev pub took : Outcome → After
+took outcome = after 0 (outcome .answer) (outcome .card)
+
+-- a terminal to which no memory was lent
+abbrev pub alone : Terminal → Card
+alone given = card (given .core) (given .queue) []
+
+-- ---- what is judged
+
+abbrev pub wholeCard : Card → Bool
+wholeCard old = eqb (length (old .ram)) cardWords
+
+abbrev pub fitTerminal : Terminal → Bool
+fitTerminal given = fitCore (given .core) && fitQueue (given .queue)
+
+-- 1, then 4, then the action's own number where its input is not in order
+unfoldable pub withMemory : Bool → ℕ → Event → Card → After
+withMemory inOrder number event old =
+    cond (not (wholeCard old)) (after 1 (replied Silent) old)
+    (cond (not (fitCard old)) (after 4 (replied Silent) old)
+    (cond (not inOrder) (after number (replied Silent) old)
+    (took (step event old))))
+
+-- 4, then the action's own number where its input is not in order
+unfoldable pub withoutMemory : Bool → ℕ → Answer → Event → Card → After
+withoutMemory inOrder number refused event old =
+    cond (not (fitCard old)) (after 4 refused old)
+    (cond (not inOrder) (after number refused old)
+    (took (step event old)))
+
+-- ---- the actions
+
+unfoldable pub wordAction : ℕ → ℕ → ℕ → Card → After
+wordAction marks value time = withMemory (leb marks 15) 8 (word (wordOf marks value time))
+
+unfoldable pub silenceAction : ℕ → ℕ → Card → After
+silenceAction line time = withMemory (leb line 1) 8 (silence (eqb line 1) time)
+
+unfoldable pub hostWriteAction : ℕ → List ℕ → Card → After
+hostWriteAction address words =
+    withMemory
+    (leb 1 (length words) && leb (length words) 64 && leb (address + length words) cardWords)
+    8 (hostWrite address words)
+
+unfoldable pub readQueueAction : Card → After
+readQueueAction old =
+    cond (not (fitCard old)) (after 4 (queueWord 0) old) (took (step queueRead old))
+
+unfoldable pub moveTableAction : ℕ → Card → After
+moveTableAction table = withoutMemory (leb table 255) 3 (replied Silent) (tableMove table)
+
+unfoldable pub setFlagsAction : ℕ → Card → After
+setFlagsAction flags = withoutMemory (leb flags 63) 8 (replied Silent) (flagsWrite flags)
+
+-- ---- setup
+
+abbrev pub terminal : Core → Queue → Terminal
+terminal core queue = record { core = core; queue = queue }
+
+unfoldable pub terminalAtSetup : ℕ → ℕ → ℕ → Terminal
+terminalAtSetup station table flags = terminal (coreAtSetup station table flags) emptyQueue
+
+-- no terminal: every action refuses it with 4
+abbrev pub noTerminal : Terminal
+noTerminal = terminalAtSetup 31 0 0
+
+abbrev pub settled : ℕ → Terminal → Done
+settled refusal given = record { refusal = refusal; terminal = given }
+
+-- 2 station above 30, 3 table block above 255, 8 flags above 63
+unfoldable pub setupAction : ℕ → ℕ → ℕ → Done
+setupAction station table flags =
+    cond (not (leb station 30)) (settled 2 noTerminal)
+    (cond (not (leb table 255)) (settled 3 noTerminal)
+    (cond (not (leb flags 63)) (settled 8 noTerminal)
+    (settled 0 (terminalAtSetup station table flags))))

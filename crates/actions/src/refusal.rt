@@ -1,0 +1,52 @@
+// Which number refuses, told before anything is done.
+ghost use mathlib.Core.Path.{_≡_};
+ghost use lib.Dec.{eqb};
+ghost use Rattle.card.specs.Memory.{cardWords};
+ghost use Rattle.actions.specs.Actions.{fitTerminal};
+ghost use Rattle.actions.specs.Refusal.{setupRefusal, memoryRefusal, aloneRefusal};
+use crate::Terminal;
+use card::place::CARD_WORDS;
+
+// What setup refuses: 2 station above 30, 3 table block above 255, 8 flags above 63.
+pub(crate) fn setup_refusal(station: u16, table: u16, flags: u16) -> u8
+    ensures { λ number. ⌜ number ≡ setupRefusal station table flags ⌝ }
+{
+    if station > 30 {
+        return 2;
+    }
+    if table > 255 {
+        return 3;
+    }
+    if flags > 63 {
+        return 8;
+    }
+    0
+}
+
+impl Terminal {
+    // What an action over memory refuses: 1 memory that is not the card's, 4 a state that is not
+    // fit, 8 input out of order.
+    pub(crate) fn memory_refusal(self, words: usize, ordered: bool) -> u8
+        ensures { λ number. ⌜ number
+            ≡ memoryRefusal (eqb words cardWords) (fitTerminal self) ordered ⌝ }
+    {
+        if words != CARD_WORDS {
+            return 1;
+        }
+        self.refusal(ordered, 8)
+    }
+
+    // What an action on the terminal alone refuses: 4 a state that is not fit, then its own number
+    // where its input is out of order.
+    pub(crate) fn refusal(self, ordered: bool, number: u8) -> u8
+        ensures { λ refusal. ⌜ refusal ≡ aloneRefusal (fitTerminal self) ordered number ⌝ }
+    {
+        if !self.is_fit() {
+            return 4;
+        }
+        if !ordered {
+            return number;
+        }
+        0
+    }
+}

@@ -1,0 +1,108 @@
+-- The changes that a message brings keep the card fit: it goes on, `fit-going-on`, a word opens
+-- one, `fit-opening`, and it closes with a fault or sound, `fit-faulted` and `fit-ended`.
+-- Assumes nothing.
+use mathlib.Core.Path.{_≡_, refl}
+use mathlib.Core.Bool.{Bool, true, false, cond, _&&_}
+use mathlib.Core.List.{List}
+use Prim.Native.Nat.{ℕ, _≤_}
+use Rattle.bus.specs.Kind.{kindOf}
+use Rattle.card.specs.Memory.{cellAt}
+use Rattle.queue.specs.declared.Queue.{Queue}
+use Rattle.queue.specs.Queue.{withJoined, fitQueue}
+use Rattle.queue.proofs.FitLaws.{join-keeps-fit}
+use Rattle.message.specs.declared.format.Format.{Format}
+use Rattle.message.specs.declared.state.OpenMessage.{OpenMessage}
+use Rattle.message.specs.declared.state.Message.{Message}
+use Rattle.message.specs.declared.state.Message.the-variants.{Idle, Open}
+use Rattle.terminal.specs.declared.state.Core.{Core}
+use Rattle.bus.specs.declared.word.Word.{Word}
+use Rattle.terminal.specs.State.{Card, card, withStatus, withLast, withSwitches, withMessage}
+use Rattle.message.specs.Format.{formatOf}
+use Rattle.terminal.specs.Opening.{openedMessage, openedCore, opening}
+use Rattle.terminal.specs.Closing.{closedQueue, closing, faulted, ended}
+use Rattle.message.specs.Fitness.{fitMessage}
+use Rattle.terminal.specs.Fitness.{fitCore}
+use Rattle.terminal_laws.proofs.FitParts.{
+  addressed,
+  FitOpen,
+  fit-open-whole,
+  fit-core-parts,
+  fit-core-whole,
+  FitCard,
+}
+use Rattle.terminal_laws.proofs.FitMessage.{opened-fits}
+
+-- ---- going on and opening
+
+-- the core with another message, or none
+fit-with-message : (message : Message) (core : Core) → fitMessage message (core .station) ≡ true
+    → fitCore core ≡ true → fitCore (withMessage message core) ≡ true
+unfolding withMessage
+fit-with-message message core fit-message fit =
+    let parts = fit-core-parts core fit in
+    fit-core-whole (record {
+      station = parts .station;
+      table = parts .table;
+      flags = parts .flags;
+      message = fit-message;
+    })
+
+-- the open message goes on, whatever is in memory
+pub fit-going-on : (message : OpenMessage) (ram : List ℕ) (old : Card)
+    → FitOpen (old .core .station) message → FitCard old
+    → FitCard (card (withMessage (Open message) (old .core)) (old .queue) ram)
+fit-going-on message ram old fit-message fit =
+    record {
+      core = fit-with-message (Open message) (old .core) (fit-open-whole fit-message) (fit .core);
+      queue = fit .queue;
+    }
+
+-- a command opens a message: its home is the table block, which is fit
+pub fit-opening : (word : Word) (old : Card)
+    → addressed (old .core .station) (word .value) ≡ true → FitCard old → FitCard (opening word old)
+unfolding opening openedCore withMessage withLast withStatus fitCore
+fit-opening word old to-us fit =
+    let core = old .core in
+    let format = formatOf (word .value) in
+    let entry = cellAt (old .ram) (core .table) (format .cell) in
+    let message = openedMessage (kindOf (word .value)) format entry word core in
+    let fit-message : FitOpen (core .station) message =
+    opened-fits entry word core to-us (fit-core-parts core (fit .core) .table) in
+    record {
+      core = fit-with-message (Open message) core (fit-open-whole fit-message) (fit .core);
+      queue = fit .queue;
+    }
+
+-- ---- closing
+
+-- the block joins the queue, or does not
+fit-closed-queue : (joins : Bool) (block : ℕ) (queue : Queue) → block ≤ 255
+    → fitQueue queue ≡ true → fitQueue (cond joins (withJoined block queue) queue) ≡ true
+fit-closed-queue true block queue on-card fit = join-keeps-fit block queue on-card fit
+fit-closed-queue false block queue on-card fit = fit
+
+-- nothing is open any more
+fit-closing : (format : Format) (state time : ℕ) (message : OpenMessage) (old : Card)
+    → message .block ≤ 255 → FitCard old → FitCard (closing format state time message old)
+unfolding closing closedQueue
+fit-closing format state time message old on-card fit =
+    record {
+      core = fit-with-message Idle (old .core) refl (fit .core);
+      queue =
+          fit-closed-queue (format .block && message .queued) (message .block) (old .queue) on-card
+          (fit .queue);
+    }
+
+-- refusal 4 asks nothing of the remembered status ..
+pub fit-faulted : (format : Format) (code time : ℕ) (message : OpenMessage) (old : Card)
+    → message .block ≤ 255 → FitCard old → FitCard (faulted format code time message old)
+unfolding faulted withStatus fitCore
+fit-faulted format code time message old on-card fit =
+    fit-closing format _ time message _ on-card (record { core = fit .core; queue = fit .queue })
+
+-- .. nor of shut lines and inhibit
+pub fit-ended : (format : Format) (time : ℕ) (message : OpenMessage) (old : Card)
+    → message .block ≤ 255 → FitCard old → FitCard (ended format time message old)
+unfolding ended withSwitches fitCore
+fit-ended format time message old on-card fit =
+    fit-closing format _ time message _ on-card (record { core = fit .core; queue = fit .queue })

@@ -1,0 +1,130 @@
+-- An open message is fit when it opens, `opened-fits`, and it stays fit further on: with one more
+-- word, a second command, the wait for its answer, the answer, and when the host has set the table
+-- block. Assumes nothing.
+use mathlib.Core.Path.{_≡_, refl}
+use mathlib.Core.Bool.{Bool, true, false, cond}
+use Prim.Native.Nat.{ℕ, _+_, _≤_}
+use native.Mathlib.Omega.{arith}
+use lib.Dec.{eqb, leb}
+use borrow.Author.Tests.{leb-false}
+use Rattle.rules.proofs.Cases.{both}
+use Rattle.bus.specs.Kind.{kindOf, isIllegal}
+use Rattle.card.specs.TableWord.{blockOf}
+use Rattle.message.specs.declared.state.Stage.the-variants.{
+  Data,
+  SecondCommand,
+  AwaitingStatus,
+  Skipping,
+}
+use Rattle.message.specs.declared.state.Second.the-variants.{Absent, Command}
+use Rattle.message.specs.declared.state.OpenMessage.{OpenMessage}
+use Rattle.message.specs.declared.state.Message.{Message}
+use Rattle.message.specs.declared.state.Message.the-variants.{Idle, Open}
+use Rattle.terminal.specs.declared.state.Core.{Core}
+use Rattle.bus.specs.declared.word.Word.{Word}
+use Rattle.message.specs.Message.{further, movedMessage}
+use Rattle.message.specs.Format.{formatOf}
+use Rattle.terminal.specs.Opening.{openedMessage}
+use Rattle.message.specs.Words.{isSecond}
+use Rattle.message.specs.Fitness.{fitStage, fitOpen, fitMessage}
+use Rattle.terminal_laws.proofs.FitParts.{addressed, isLegal, InStage, FitOpen}
+
+-- ---- the message that a word opens
+
+-- a table word names one of 256 blocks, and without a block the number is 0
+fit-block : (has : Bool) (entry : ℕ) → cond has (blockOf entry) 0 ≤ 255
+fit-block true entry = omega arith
+fit-block false entry = omega arith
+
+-- skipping exactly for illegal commands
+fit-first-stage : (illegal : Bool) → fitStage (cond illegal Skipping Data) illegal Absent 0 ≡ true
+fit-first-stage true = refl
+fit-first-stage false = refl
+
+-- whatever the table word is
+pub opened-fits : (entry : ℕ) (word : Word) (core : Core)
+    → addressed (core .station) (word .value) ≡ true → core .table ≤ 255
+    → FitOpen (core .station)
+    (openedMessage (kindOf (word .value)) (formatOf (word .value)) entry word core)
+unfolding openedMessage
+opened-fits entry word core to-us table =
+    record {
+      address = to-us;
+      block = fit-block (formatOf (word .value) .block) entry;
+      home = table;
+      taken = omega arith;
+      second = refl;
+      stage = fit-first-stage (isIllegal (kindOf (word .value)));
+    }
+
+-- ---- the message further on
+
+module _ (station : ℕ) (message : OpenMessage) (fit : FitOpen station message) where
+  -- one more of the words that it wants
+  pub fits-with-word : isLegal message ≡ true
+      → leb (formatOf (message .command) .takes) (message .taken) ≡ false
+      → FitOpen station (further Data (message .second) (message .taken + 1) message)
+  unfolding further
+  fits-with-word legal short =
+      record {
+        address = fit .address;
+        block = fit .block;
+        home = fit .home;
+        taken =
+            omega (arith, leb-false (formatOf (message .command) .takes) (message .taken) short);
+        second = fit .second;
+        stage = legal;
+      }
+
+  -- a second command before any word of a data receive
+  pub fits-with-second : (value : ℕ) → isLegal message ≡ true
+      → formatOf (message .command) .receive ≡ true → eqb (message .taken) 0 ≡ true
+      → isSecond station (message .command) value ≡ true
+      → FitOpen station (further SecondCommand (Command value) (message .taken) message)
+  unfolding further
+  fits-with-second value legal receive none second =
+      record {
+        address = fit .address;
+        block = fit .block;
+        home = fit .home;
+        taken = fit .taken;
+        second =
+            both (formatOf (message .command) .receive) (isSecond station (message .command) value)
+            receive second;
+        stage = rw (legal, none);
+      }
+
+  -- the silence behind a second command
+  pub fits-awaiting : InStage SecondCommand message
+      → FitOpen station (further AwaitingStatus (message .second) (message .taken) message)
+  unfolding further
+  fits-awaiting reached =
+      record {
+        address = fit .address;
+        block = fit .block;
+        home = fit .home;
+        taken = fit .taken;
+        second = fit .second;
+        stage = reached;
+      }
+
+  -- the answering status
+  pub fits-with-status : isLegal message ≡ true
+      → FitOpen station (further Data (message .second) (message .taken) message)
+  unfolding further
+  fits-with-status legal =
+      record {
+        address = fit .address;
+        block = fit .block;
+        home = fit .home;
+        taken = fit .taken;
+        second = fit .second;
+        stage = legal;
+      }
+
+-- the host has set the table block
+pub moved-fits : (station : ℕ) (message : Message)
+    → fitMessage message station ≡ true → fitMessage (movedMessage message) station ≡ true
+unfolding movedMessage fitOpen
+moved-fits station Idle fit = refl
+moved-fits station (Open message) fit = fit

@@ -1,0 +1,155 @@
+-- What refusal 4 asks of an open message, of the core and of the card: `..-parts` takes the test
+-- apart into a record, `..-whole` puts it together again. Assumes nothing.
+use mathlib.Core.Path.{_≡_}
+use mathlib.Core.Bool.{Bool, true, not, _&&_, _||_}
+use Prim.Native.Nat.{ℕ, _≤_}
+use lib.Dec.{eqb, leb}
+use borrow.Author.Tests.{leb-true, le-leb}
+use Rattle.rules.proofs.Halves.{first-of-both, second-of-both}
+use Rattle.bus.specs.Command.{addressOf, isBroadcast}
+use Rattle.bus.specs.Kind.{kindOf, isIllegal}
+use Rattle.queue.specs.Queue.{fitQueue}
+use Rattle.message.specs.declared.state.Stage.{Stage}
+use Rattle.message.specs.declared.state.OpenMessage.{OpenMessage}
+use Rattle.message.specs.declared.state.Message.the-variants.{Open}
+use Rattle.terminal.specs.declared.state.Core.{Core}
+use Rattle.terminal.specs.State.{Card}
+use Rattle.message.specs.Format.{formatOf}
+use Rattle.message.specs.Fitness.{fitSecond, fitStage, fitOpen, fitMessage}
+use Rattle.terminal.specs.Fitness.{fitCore, fitCard}
+
+-- ---- an open message
+
+-- the address is the station or 31
+abbrev pub addressed : ℕ → ℕ → Bool
+addressed station command = eqb (addressOf command) station || isBroadcast command
+
+-- the command is legal
+abbrev pub isLegal : OpenMessage → Bool
+isLegal message = not (isIllegal (kindOf (message .command)))
+
+-- the message could have come to the stage
+abbrev pub InStage : Stage → OpenMessage → Type 0
+InStage stage message =
+    fitStage stage (isIllegal (kindOf (message .command))) (message .second) (message .taken) ≡ true
+
+-- what is asked of an open message
+pub record FitOpen (station : ℕ) (message : OpenMessage) : Type 0 where
+  pub address : addressed station (message .command) ≡ true
+  pub block : message .block ≤ 255
+  pub home : message .home ≤ 255
+  pub taken : message .taken ≤ formatOf (message .command) .takes
+  pub second : fitSecond (message .second) station (message .command)
+      (formatOf (message .command) .receive) ≡ true
+  pub stage : InStage (message .stage) message
+
+-- the test taken apart ..
+pub fit-open-parts : (station : ℕ) (message : OpenMessage)
+    → fitOpen station message ≡ true → FitOpen station message
+unfolding fitOpen
+fit-open-parts station message fit =
+    let command = message .command in
+    let format = formatOf command in
+    let address = addressed station command in
+    let block = leb (message .block) 255 in
+    let home = leb (message .home) 255 in
+    let taken = leb (message .taken) (format .takes) in
+    let second = fitSecond (message .second) station command (format .receive) in
+    let stage =
+    fitStage (message .stage) (isIllegal (kindOf command)) (message .second) (message .taken) in
+    let to-second = first-of-both (address && block && home && taken && second) stage fit in
+    let to-taken = first-of-both (address && block && home && taken) second to-second in
+    let to-home = first-of-both (address && block && home) taken to-taken in
+    let to-block = first-of-both (address && block) home to-home in
+    record {
+      address = first-of-both address block to-block;
+      block = leb-true (message .block) 255 (second-of-both address block to-block);
+      home = leb-true (message .home) 255 (second-of-both (address && block) home to-home);
+      taken =
+          leb-true (message .taken) (format .takes)
+          (second-of-both (address && block && home) taken to-taken);
+      second = second-of-both (address && block && home && taken) second to-second;
+      stage = second-of-both (address && block && home && taken && second) stage fit;
+    }
+
+-- .. and put together again
+pub fit-open-whole : {station : ℕ} {message : OpenMessage}
+    → FitOpen station message → fitOpen station message ≡ true
+unfolding fitOpen
+fit-open-whole {station} {message} parts =
+    rw (
+      parts .address,
+      le-leb (message .block) 255 (parts .block),
+      le-leb (message .home) 255 (parts .home),
+      le-leb (message .taken) (formatOf (message .command) .takes) (parts .taken),
+      parts .second,
+    ) (parts .stage)
+
+-- ---- the core
+
+-- what is asked of the core
+pub record FitCore (core : Core) : Type 0 where
+  pub station : core .station ≤ 30
+  pub table : core .table ≤ 255
+  pub flags : core .flags ≤ 63
+  pub message : fitMessage (core .message) (core .station) ≡ true
+
+-- the test taken apart ..
+pub fit-core-parts : (core : Core) → fitCore core ≡ true → FitCore core
+unfolding fitCore
+fit-core-parts core fit =
+    let station = leb (core .station) 30 in
+    let table = leb (core .table) 255 in
+    let flags = leb (core .flags) 63 in
+    let message = fitMessage (core .message) (core .station) in
+    let to-flags = first-of-both (station && table && flags) message fit in
+    let to-table = first-of-both (station && table) flags to-flags in
+    record {
+      station = leb-true (core .station) 30 (first-of-both station table to-table);
+      table = leb-true (core .table) 255 (second-of-both station table to-table);
+      flags = leb-true (core .flags) 63 (second-of-both (station && table) flags to-flags);
+      message = second-of-both (station && table && flags) message fit;
+    }
+
+-- .. and put together again
+pub fit-core-whole : {core : Core} → FitCore core → fitCore core ≡ true
+unfolding fitCore
+fit-core-whole {core} parts =
+    rw (
+      le-leb (core .station) 30 (parts .station),
+      le-leb (core .table) 255 (parts .table),
+      le-leb (core .flags) 63 (parts .flags),
+    ) (parts .message)
+
+-- the message that is open in a fit core
+pub open-parts : (core : Core) (message : OpenMessage)
+    → fitCore core ≡ true → core .message ≡ Open message → FitOpen (core .station) message
+open-parts core message fit is =
+    fit-open-parts (core .station) message (rw is at (fit-core-parts core fit .message))
+
+-- its block and its table block are blocks of the card
+pub open-block-fits : (core : Core) (message : OpenMessage)
+    → fitCore core ≡ true → core .message ≡ Open message
+    → (message .block ≤ 255) × (message .home ≤ 255)
+open-block-fits core message fit is =
+    let parts = open-parts core message fit is in
+    (parts .block, parts .home)
+
+-- ---- the card
+
+-- the terminal of the card is fit, core and queue
+pub record FitCard (old : Card) : Type 0 where
+  pub core : fitCore (old .core) ≡ true
+  pub queue : fitQueue (old .queue) ≡ true
+
+-- the test by which the actions refuse, taken apart ..
+pub fit-card-parts : (old : Card) → fitCard old ≡ true → FitCard old
+fit-card-parts old fit =
+    record {
+      core = first-of-both (fitCore (old .core)) (fitQueue (old .queue)) fit;
+      queue = second-of-both (fitCore (old .core)) (fitQueue (old .queue)) fit;
+    }
+
+-- .. and put together again
+pub fit-card-whole : {old : Card} → FitCard old → fitCard old ≡ true
+fit-card-whole {old} parts = rw (parts .core) (parts .queue)

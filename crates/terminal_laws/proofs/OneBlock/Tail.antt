@@ -1,0 +1,319 @@
+-- The common tail: two related runs that go on with the same events stay related, and every outcome
+-- is the same. For any set of spent blocks that are spared. Assumes nothing.
+use mathlib.Core.Path.{_≡_, refl, sym, subst}
+use mathlib.Core.Bool.{Bool, true, false, cond}
+use mathlib.Core.List.{List, [], _∷_}
+use Prim.Native.Nat.{ℕ}
+use Rattle.queue.specs.declared.Queue.{Queue}
+use Rattle.message.specs.declared.judge.WordAct.{WordAct}
+use Rattle.message.specs.declared.judge.WordAct.the-variants.{
+  Ignore,
+  Store,
+  Check,
+  TakeSecond,
+  TakeStatus,
+  Fault,
+  Supersede,
+  Drop,
+}
+use Rattle.message.specs.declared.judge.SilenceAct.{SilenceAct}
+use Rattle.message.specs.declared.judge.SilenceAct.the-variants.{
+  Ignore as IgnoreSilence,
+  AwaitStatus,
+  Fault as FaultSilence,
+  End,
+}
+use Rattle.message.specs.declared.state.Stage.{Stage}
+use Rattle.message.specs.declared.state.Stage.the-variants.{Data, SecondCommand, AwaitingStatus}
+use Rattle.message.specs.declared.state.Second.{Second}
+use Rattle.message.specs.declared.state.Second.the-variants.{Command}
+use Rattle.message.specs.declared.state.OpenMessage.{OpenMessage}
+use Rattle.message.specs.declared.state.Message.{Message}
+use Rattle.message.specs.declared.state.Message.the-variants.{Idle, Open}
+use Rattle.bus.specs.declared.word.Word.{Word}
+use Rattle.message.specs.Message.{further}
+use Rattle.message.specs.Format.{formatOf}
+use Rattle.message.specs.Words.{ownCommand, onWord}
+use Rattle.message.specs.Silence.{onSilence}
+use Rattle.terminal.specs.declared.state.Core.{Core}
+use Rattle.terminal.specs.declared.state.Reply.the-variants.{Words}
+use Rattle.terminal.specs.declared.state.Answer.the-variants.{Replied}
+use Rattle.terminal.specs.State.{Card, card, withTable, withFlags, withStatus, withMessage}
+use Rattle.terminal.specs.Closing.{faulted, closing}
+use Rattle.terminal.specs.Event.{
+  Event,
+  word,
+  silence,
+  queueRead,
+  hostWrite,
+  tableMove,
+  flagsWrite,
+  quietly,
+  opens,
+  goesOn,
+}
+use Rattle.terminal.specs.WordStep.{wordDone, wordMet, wordStep}
+use Rattle.terminal.specs.SilenceStep.{silenceDone, silenceMet, silenceStep}
+use Rattle.terminal.specs.Machine.{
+  queueReadStep,
+  hostWriteStep,
+  tableMoveStep,
+  flagsWriteStep,
+  step,
+  run,
+}
+use Rattle.terminal_laws.specs.OneBlock.{stillBefore, same, SameOutcome, Later, Spared}
+use Rattle.terminal_laws.proofs.OneBlock.Agreement.{Agree, both-cell, both-words, same-part}
+use Rattle.terminal_laws.proofs.OneBlock.Relation.{
+  Statuses,
+  statuses-further,
+  statuses-moved,
+  Related,
+  related-alike,
+  StillRelated,
+}
+use Rattle.terminal_laws.proofs.OneBlock.Changes.{related-faulted, related-ended, related-opening}
+use Rattle.terminal_laws.proofs.OneBlock.Answers.{same-reply, sent-at-most}
+
+-- ---- one event, on a card and on the same with another remembered status and a memory that agrees
+
+module _ {Spent : ℕ → Type 0} {before : Bool} (core : Core) (queue : Queue) (status : ℕ)
+    (ram other : List ℕ) (agree : Agree Spent ram other) (unspent : Spent (core .table) → ⊥)
+    (statuses : Statuses before (core .message) (core .status) status) where
+  abbrev here : Card
+  here = card core queue ram
+
+  abbrev there : Card
+  there = card (withStatus status core) queue other
+
+  abbrev now : Related Spent before here there
+  now = record { status = status; core = refl; queue = refl; statuses = statuses; cells = agree }
+
+  still-quietly : (message : Message)
+      → StillRelated Spent before message (quietly here) (quietly there)
+  unfolding stillBefore
+  still-quietly message = record { answer = same; related = now }
+
+  -- the open message goes on
+  still-going-on : (stage : Stage) (second : Second) (taken : ℕ) (message : OpenMessage)
+      → Statuses before (Open message) (core .status) status
+      → StillRelated Spent before (Open message)
+      (goesOn (further stage second taken message) here)
+      (goesOn (further stage second taken message) there)
+  unfolding stillBefore withStatus withMessage
+  still-going-on stage second taken message asked =
+      record {
+        answer = same;
+        related =
+            record {
+              status = status;
+              core = refl;
+              queue = refl;
+              statuses = statuses-further stage second taken asked;
+              cells = agree;
+            };
+      }
+
+  -- each act of a word
+  still-word-done : (act : WordAct) (message : OpenMessage) (heard : Word)
+      → Statuses before (Open message) (core .status) status
+      → StillRelated Spent before (Open message)
+      (wordDone act (formatOf (message .command)) message heard here)
+      (wordDone act (formatOf (message .command)) message heard there)
+  unfolding wordDone stillBefore withStatus withMessage faulted closing
+  still-word-done Ignore message heard asked = still-quietly (Open message)
+  still-word-done (Store taken) message heard asked =
+      record {
+        answer = same;
+        related =
+            record {
+              status = status;
+              core = refl;
+              queue = refl;
+              statuses = statuses-further _ _ _ asked;
+              cells = both-cell _ _ _ agree;
+            };
+      }
+  still-word-done (Check taken) message heard asked =
+      still-going-on Data (message .second) taken message asked
+  still-word-done (TakeSecond value) message heard asked =
+      still-going-on SecondCommand (Command value) (message .taken) message asked
+  still-word-done TakeStatus message heard asked =
+      still-going-on Data (message .second) (message .taken) message asked
+  still-word-done (Fault code) message heard asked =
+      record {
+        answer = same;
+        related =
+            related-faulted core queue status ram other agree (formatOf (message .command)) code
+            (heard .time) message asked;
+      }
+  still-word-done Supersede message heard asked =
+      record {
+        answer = same;
+        related =
+            related-opening heard unspent
+            (related-faulted core queue status ram other agree (formatOf (message .command)) 7
+            (heard .time) message asked);
+      }
+  still-word-done Drop message heard asked =
+      record { answer = same; related = related-opening heard unspent now }
+
+  still-own : (own : Bool) (heard : Word)
+      → StillRelated Spent before Idle (cond own (opens heard here) (quietly here))
+      (cond own (opens heard there) (quietly there))
+  still-own true heard = record { answer = same; related = related-opening heard unspent now }
+  still-own false heard = still-quietly Idle
+
+  still-word : (message : Message) (heard : Word)
+      → Statuses before message (core .status) status
+      → StillRelated Spent before message (wordMet message heard here) (wordMet message heard there)
+  unfolding withStatus
+  still-word Idle heard asked = still-own (ownCommand (core .station) (core .flags) heard) heard
+  still-word (Open message) heard asked =
+      still-word-done
+      (onWord (core .station) (core .flags) (formatOf (message .command)) message heard)
+      message heard asked
+
+  -- each act of a silence
+  still-silence-done : (act : SilenceAct) (message : OpenMessage) (time : ℕ)
+      → Statuses before (Open message) (core .status) status
+      → StillRelated Spent before (Open message)
+      (silenceDone act (formatOf (message .command)) message time here)
+      (silenceDone act (formatOf (message .command)) message time there)
+  unfolding silenceDone stillBefore withStatus withMessage
+  still-silence-done IgnoreSilence message time asked = still-quietly (Open message)
+  still-silence-done AwaitStatus message time asked =
+      still-going-on AwaitingStatus (message .second) (message .taken) message asked
+  still-silence-done (FaultSilence code) message time asked =
+      record {
+        answer = same;
+        related =
+            related-faulted core queue status ram other agree (formatOf (message .command)) code
+            time message asked;
+      }
+  still-silence-done End message time asked =
+      record {
+        answer = same-reply message core status asked;
+        related =
+            related-ended core queue status ram other agree (formatOf (message .command)) time
+            message asked;
+      }
+
+  still-silence : (message : Message) (line : Bool) (time : ℕ)
+      → Statuses before message (core .status) status
+      → StillRelated Spent before message (silenceMet message line time here)
+      (silenceMet message line time there)
+  still-silence Idle line time asked = still-quietly Idle
+  still-silence (Open message) line time asked =
+      still-silence-done (onSilence (formatOf (message .command)) message line) message time asked
+
+  -- each event
+  still-event : (event : Event)
+      → StillRelated Spent before (core .message) (step event here) (step event there)
+  unfolding step wordStep silenceStep queueReadStep hostWriteStep tableMoveStep flagsWriteStep
+      stillBefore withStatus withTable withFlags withMessage
+  still-event (word heard) = still-word (core .message) heard statuses
+  still-event (silence line time) = still-silence (core .message) line time statuses
+  still-event queueRead = record {
+    answer = same;
+    related =
+        record { status = status; core = refl; queue = refl; statuses = statuses; cells = agree };
+  }
+  still-event (hostWrite address words) =
+      record {
+        answer = same;
+        related =
+            record {
+              status = status;
+              core = refl;
+              queue = refl;
+              statuses = statuses;
+              cells = both-words address words agree;
+            };
+      }
+  still-event (tableMove table) =
+      record {
+        answer = same;
+        related =
+            record {
+              status = status;
+              core = refl;
+              queue = refl;
+              statuses = statuses-moved statuses;
+              cells = agree;
+            };
+      }
+  still-event (flagsWrite flags) =
+      record {
+        answer = same;
+        related =
+            record {
+              status = status;
+              core = refl;
+              queue = refl;
+              statuses = statuses;
+              cells = agree;
+            };
+      }
+
+-- ---- related cards
+
+module _ {Spent : ℕ → Type 0} {before : Bool} {here there : Card} where
+  pub still-step : (event : Event) → (Spent (here .core .table) → ⊥)
+      → Related Spent before here there
+      → StillRelated Spent before (here .core .message) (step event here) (step event there)
+  still-step event unspent related =
+      subst
+      (λ (core : Core). StillRelated Spent before (here .core .message) (step event here)
+      (step event (card core (there .queue) (there .ram))))
+      (sym (related .core))
+      (subst
+      (λ (queue : Queue). StillRelated Spent before (here .core .message) (step event here)
+      (step event (card (withStatus (related .status) (here .core)) queue (there .ram))))
+      (sym (related .queue))
+      (still-event (here .core) (here .queue) (related .status) (here .ram) (there .ram)
+      (related .cells) unspent (related .statuses) event))
+
+-- what the relation shows of an outcome
+pub still-same : {Spent : ℕ → Type 0} {before : Bool} (message : Message) (event : Event)
+    (here there : Card)
+    → ((status block count : ℕ) → step event here .answer ≡ Replied (Words status block count)
+    → Spent block → ⊥)
+    → StillRelated Spent before message (step event here) (step event there)
+    → SameOutcome Spent before message (step event here) (step event there)
+still-same message event here there spared good =
+    record {
+      answer = good .answer;
+      words = λ status block count is.
+          same-part block count (spared status block count is)
+          (sent-at-most event here status block count is) (good .related .cells);
+      cards = related-alike (good .related);
+    }
+
+-- the same events, one after the other
+pub tail : {Spent : ℕ → Type 0} {before : Bool} {here there : Card} (after : List Event)
+    → Spared Spent after here → Related Spent before here there
+    → Later Spent before after here there
+unfolding Spared Later
+tail [] spared related = tt
+tail {here = here} {there = there} (event ∷ after) spared related =
+    let good = still-step event (spared .0) related in (
+      still-same (here .core .message) event here there (spared .1) good,
+      tail after (spared .2) (good .related),
+    )
+
+-- ---- the relation after them, for what comes next
+
+-- whether no other command has opened a message in these events
+unfoldable pub stillBeforeAll : Bool → List Event → Card → Bool
+stillBeforeAll before [] card = before
+stillBeforeAll before (event ∷ after) card =
+    stillBeforeAll (stillBefore before (step event card .opened)) after (step event card .card)
+
+pub related-run : {Spent : ℕ → Type 0} {before : Bool} {here there : Card} (after : List Event)
+    → Spared Spent after here → Related Spent before here there
+    → Related Spent (stillBeforeAll before after here) (run after here) (run after there)
+unfolding Spared stillBeforeAll run
+related-run [] spared related = related
+related-run (event ∷ after) spared related =
+    related-run after (spared .2) (still-step event (spared .0) related .related)

@@ -1,0 +1,184 @@
+-- The words that a reply sends are those in memory at the silence, though they are read after the
+-- closing: cell by cell `sent-cells-stay`, a reply's values `words-of-the-silence`. For every card,
+-- fit or not, over memory of any length. Assumes nothing.
+use mathlib.Core.Path.{_≡_, refl, sym, ap, subst, _∙_}
+use mathlib.Core.Bool.{Bool, true, false, cond, not, _&&_}
+use mathlib.Core.List.{List, _∷_}
+use Prim.Native.Nat.{ℕ, _+_, _≤_, _<_}
+use native.Mathlib.Omega.{arith}
+use lib.Dec.{eqb, leb}
+use lib.ListN.{length, take, drop, length-take, length-drop}
+use lib.Seq.{ext-getD, getD-take, getD-drop}
+use Rattle.bus.specs.declared.kind.Kind.{Kind}
+use Rattle.bus.specs.declared.kind.Kind.the-variants.{
+  Receive,
+  Transmit,
+  ModeStatus,
+  ModeLast,
+  ModeSwitch,
+  ModeSend,
+  ModeTake,
+  ModeReply,
+  Illegal,
+}
+use Rattle.bus.specs.Command.{modeCodeOf}
+use Rattle.bus.specs.Kind.{kindOf}
+use Rattle.card.specs.Memory.{wordAddress, cellAt}
+use Rattle.card.specs.Sent.{sentPart}
+use Rattle.message.specs.declared.judge.SilenceAct.{SilenceAct}
+use Rattle.message.specs.declared.judge.SilenceAct.the-variants.{Ignore, AwaitStatus, Fault, End}
+use Rattle.message.specs.declared.state.OpenMessage.{OpenMessage}
+use Rattle.message.specs.declared.state.Message.the-variants.{Open}
+use Rattle.message.specs.Format.{formatBy, formatOf}
+use Rattle.terminal.specs.declared.state.Reply.{Reply}
+use Rattle.terminal.specs.declared.state.Reply.the-variants.{Silent, Status, Words, Last}
+use Rattle.terminal.specs.declared.state.Answer.{Answer}
+use Rattle.terminal.specs.declared.state.Answer.the-variants.{Replied}
+use Rattle.terminal.specs.State.{Card}
+use Rattle.terminal.specs.Closing.{unlessBusy, replies, replyOf}
+use Rattle.terminal.specs.Reply.{replyWords}
+use Rattle.terminal.specs.Event.{silence, Outcome}
+use Rattle.terminal.specs.SilenceStep.{silenceDone}
+use Rattle.terminal.specs.Machine.{step}
+use Rattle.terminal_laws.specs.Closes.{silenceJudged}
+use Rattle.terminal_laws.specs.Written.{MayWrite, service-cell, table-cell}
+use Rattle.terminal_laws.proofs.OneBlock.Answers.{sent-at-most}
+use Rattle.terminal_laws.proofs.OneBlock.Changes.{cell-in-table}
+use Rattle.terminal_laws.proofs.StepFrame.{silence-step, step-writes-only}
+
+-- ---- the part that is sent
+
+-- the same words in the cells make the same part
+same-sent : (ram other : List ℕ) (block count : ℕ) → length ram ≡ length other
+    → ((cell : ℕ) → cell < count → cellAt ram block cell ≡ cellAt other block cell)
+    → sentPart ram block count ≡ sentPart other block count
+unfolding sentPart cellAt
+same-sent ram other block count long cells =
+    let start = wordAddress block 0 in
+    let part : take count (drop start ram) ≡ take count (drop start other) =
+    ext-getD 0 (take count (drop start ram)) (take count (drop start other))
+    (simp (length-take, length-drop, long))
+    (λ cell inside.
+    let below : cell < count = omega (arith, simp length-take at inside) in
+    let at : wordAddress block cell ≡ start + cell = omega arith in
+    rw (
+      getD-take count (drop start ram) cell 0 below,
+      getD-take count (drop start other) cell 0 below,
+      getD-drop start ram cell 0,
+      getD-drop start other cell 0,
+      ← at,
+    )
+    (cells cell below)) in
+    rw (long, part) refl
+
+-- ---- whatever sends words of a block goes by a table cell from 32 on
+
+high-of-sends : (kind : Kind) (command : ℕ) → (formatBy kind command .sends ≡ 0 → ⊥)
+    → 32 ≤ formatBy kind command .cell
+unfolding formatBy
+high-of-sends Receive command sends = absurd (sends refl)
+high-of-sends Transmit command sends = omega arith
+high-of-sends ModeStatus command sends = absurd (sends refl)
+high-of-sends ModeLast command sends = absurd (sends refl)
+high-of-sends ModeSwitch command sends = absurd (sends refl)
+high-of-sends ModeSend command sends = go (eqb (modeCodeOf command) 16)
+  where
+    go : (code : Bool) → 32 ≤ cond code 32 63
+    go true = omega arith
+    go false = omega arith
+high-of-sends ModeTake command sends = absurd (sends refl)
+high-of-sends ModeReply command sends = absurd (sends refl)
+high-of-sends Illegal command sends = absurd (sends refl)
+
+-- answers, with what holds where one sends words
+data Sends (cell : ℕ) : Answer → Type 0 where
+  silent : Sends cell (Replied Silent)
+  a-status : {status : ℕ} → Sends cell (Replied (Status status))
+  a-last : {status last : ℕ} → Sends cell (Replied (Last status last))
+  some-words : {status block count : ℕ} → 32 ≤ cell
+      → Sends cell (Replied (Words status block count))
+
+sends-if : {cell : ℕ} {reply other : Reply} (test : Bool)
+    → (test ≡ true → Sends cell (Replied reply)) → (test ≡ false → Sends cell (Replied other))
+    → Sends cell (Replied (cond test reply other))
+sends-if true holds fails = holds refl
+sends-if false holds fails = fails refl
+
+sends-some : (busy : Bool) (sends : ℕ) → eqb (cond busy 0 sends) 0 ≡ false → sends ≡ 0 → ⊥
+sends-some true sends some none = let clash : _≡_ {A = ℕ} 0 1 = cc in omega arith
+sends-some false sends some none =
+    let some-of-none : eqb 0 0 ≡ false = rw none at some in
+    let clash : _≡_ {A = ℕ} 0 1 = cc in
+    omega arith
+
+module _ (message : OpenMessage) (time : ℕ) (old : Card) where
+  high-done : (act : SilenceAct)
+      → Sends (formatOf (message .command) .cell)
+      (silenceDone act (formatOf (message .command)) message time old .answer)
+  unfolding silenceDone replyOf
+  high-done Ignore = silent
+  high-done AwaitStatus = silent
+  high-done (Fault code) = silent
+  high-done End =
+      let format = formatOf (message .command) in
+      sends-if (not (replies (old .core) message)) (λ shut. silent) (λ given.
+      sends-if (format .last) (λ last. a-last) (λ other.
+      sends-if (eqb (unlessBusy format message (format .sends)) 0) (λ alone. a-status) (λ some.
+      some-words
+      (high-of-sends (kindOf (message .command)) (message .command)
+      (sends-some (message .busy && format .yields) (format .sends) some)))))
+
+high-cell : {cell status block count : ℕ} → Sends cell (Replied (Words status block count))
+    → 32 ≤ cell
+high-cell (some-words high) = high
+
+-- ---- the law
+
+module _ (line : Bool) (time : ℕ) (old : Card) (status block count : ℕ)
+    (replied : step (silence line time) old .answer ≡ Replied (Words status block count)) where
+  high-table-cell : (message : OpenMessage) → old .core .message ≡ Open message
+      → 32 ≤ formatOf (message .command) .cell
+  high-table-cell message is-open =
+      high-cell
+      (subst (Sends (formatOf (message .command) .cell))
+      (sym (ap (λ (outcome : Outcome). outcome .answer)
+      (silence-step old message is-open line time refl))
+      ∙ replied)
+      (high-done message time old (silenceJudged message line)))
+
+  -- the closing writes none of the cells that are sent
+  sent-cell-unwritten : (cell address : ℕ) → cell < count → address ≡ wordAddress block cell
+      → MayWrite old (silence line time) address → ⊥
+  sent-cell-unwritten cell address below at (service-cell with-block closes from to is) =
+      omega (arith, sent-at-most (silence line time) old status block count replied)
+  sent-cell-unwritten cell address below at
+      (table-cell {message = message} with-block closes stays is) =
+      omega (
+        arith,
+        sent-at-most (silence line time) old status block count replied,
+        high-table-cell message (with-block .is-open),
+        cell-in-table (kindOf (message .command)) (message .command),
+      )
+
+-- the cells that are sent hold what they held
+pub sent-cells-stay : (line : Bool) (time : ℕ) (old : Card) (status block count cell : ℕ)
+    → step (silence line time) old .answer ≡ Replied (Words status block count) → cell < count
+    → cellAt (step (silence line time) old .card .ram) block cell ≡ cellAt (old .ram) block cell
+unfolding cellAt
+sent-cells-stay line time old status block count cell replied below =
+    step-writes-only (silence line time) old .same-else (wordAddress block cell)
+    (sent-cell-unwritten line time old status block count replied cell (wordAddress block cell)
+    below refl)
+
+-- so the values of the reply are the same before and after
+pub words-of-the-silence : (line : Bool) (time : ℕ) (old : Card) (reply : Reply)
+    → step (silence line time) old .answer ≡ Replied reply
+    → replyWords (step (silence line time) old .card .ram) reply ≡ replyWords (old .ram) reply
+words-of-the-silence line time old Silent replied = refl
+words-of-the-silence line time old (Status status) replied = refl
+words-of-the-silence line time old (Words status block count) replied =
+    ap (λ (sent : List ℕ). status ∷ sent)
+    (same-sent (step (silence line time) old .card .ram) (old .ram) block count
+    (step-writes-only (silence line time) old .same-length)
+    (λ cell below. sent-cells-stay line time old status block count cell replied below))
+words-of-the-silence line time old (Last status command) replied = refl
