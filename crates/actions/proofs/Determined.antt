@@ -1,6 +1,5 @@
 -- Each public contract of the crate allows one outcome alone: one answer, one terminal, and one
 -- content of every cell that was lent. Assumes nothing.
-use mathlib.Core.Path.{_≡_}
 use denote.Ref.{now}
 use Rattle.rules.proofs.Determined.{Determined, DeterminedAs, same}
 use Rattle.terminal.specs.declared.state.Reply.the-variants.{Silent}

@@ -122,27 +122,27 @@ code-17-with-direction-1-is-illegal = refl
 
 -- ---- status
 
-quiet-status : statusWord (caughtStatus 5 Receive 0x2862 0 false false) ≡ 0x2800
+quiet-status : statusWord (caughtStatus 5 false 0x2862 0 false false) ≡ 0x2800
 unfolding statusWord caughtStatus
 quiet-status = refl
 
-every-bit-of-a-broadcast : statusWord (caughtStatus 5 Receive 0xF862 62 true false) ≡ 0x291D
+every-bit-of-a-broadcast : statusWord (caughtStatus 5 false 0xF862 62 true false) ≡ 0x291D
 unfolding statusWord caughtStatus
 every-bit-of-a-broadcast = refl
 
-inhibit-takes-the-terminal-flag : statusWord (caughtStatus 5 Receive 0x2862 32 false true) ≡ 0x2800
+inhibit-takes-the-terminal-flag : statusWord (caughtStatus 5 false 0x2862 32 false true) ≡ 0x2800
 unfolding statusWord caughtStatus
 inhibit-takes-the-terminal-flag = refl
 
-control-is-for-code-0 : statusWord (caughtStatus 5 ModeReply 0x2C00 16 false false) ≡ 0x2802
+control-is-for-code-0 : statusWord (caughtStatus 5 false 0x2C00 16 false false) ≡ 0x2802
 unfolding statusWord caughtStatus
 control-is-for-code-0 = refl
 
-control-is-not-for-code-1 : statusWord (caughtStatus 5 ModeReply 0x2C01 16 false false) ≡ 0x2800
+control-is-not-for-code-1 : statusWord (caughtStatus 5 false 0x2C01 16 false false) ≡ 0x2800
 unfolding statusWord caughtStatus
 control-is-not-for-code-1 = refl
 
-an-illegal-command-is-an-error : statusWord (caughtStatus 5 Illegal 0x2802 0 false false) ≡ 0x2C00
+an-illegal-command-is-an-error : statusWord (caughtStatus 5 true 0x2802 0 false false) ≡ 0x2C00
 unfolding statusWord caughtStatus
 an-illegal-command-is-an-error = refl
 

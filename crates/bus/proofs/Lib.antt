@@ -1,9 +1,11 @@
 -- The mathematics of the standard's words.
+--     CommandLaws   how many words a command has
 --     ModeLaws      the mode table, told by ranges of codes
 --     KindLaws      which kind a command is, by the answers to its tests
 --     StatusLaws    the message error bit
 --     Determined    each public contract allows one outcome alone
 --     Examples      the definitions at work, by computation
+pub mod CommandLaws
 pub mod ModeLaws
 pub mod KindLaws
 pub mod StatusLaws

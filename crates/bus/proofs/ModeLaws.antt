@@ -1,14 +1,14 @@
 -- The law of `specs/Mode.antt`: the table, told by ranges of codes as the code tells it. One
 -- computation over the whole table carries the rule to each mode code. Assumes nothing.
 use mathlib.Core.Path.{_≡_, refl, sym, _∙_}
-use mathlib.Core.Bool.{Bool, true, false, cond, not, _&&_, _||_}
+use mathlib.Core.Bool.{true, false, cond, not, _&&_, _||_}
 use Prim.Native.Nat.{ℕ, _≤_, _<_}
 use native.Mathlib.Decide.{decLt}
 use native.Mathlib.Omega.{arith}
 use lib.Dec.{eqb, leb}
-use lib.ListN.{length, List·getD-eq-default}
+use lib.ListN.{List·getD-eq-default}
 use borrow.Author.Tests.{lt-leb, ne-eqb}
-use Rattle.rules.proofs.Tabulated.{tabulate, at-each-place}
+use Rattle.rules.proofs.Tabulated.{at-each-place}
 use Rattle.bus.specs.declared.mode.Mode.{Mode}
 use Rattle.bus.specs.declared.mode.ModeWord.the-variants.{Without, Sent, Taken}
 use Rattle.bus.specs.Mode.{row, reserved, modeTable, modeOf}

@@ -1,6 +1,6 @@
 -- The laws of the message error bit: setting it is seen in that bit alone. Assumes nothing.
 use mathlib.Core.Path.{_≡_}
-use Prim.Native.Nat.{ℕ, _<_}
+use Prim.Native.Nat.{ℕ}
 use native.Mathlib.Omega.{arith}
 use Rattle.bus.specs.Status.{withoutError, withError}
 

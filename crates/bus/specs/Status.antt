@@ -3,10 +3,8 @@ use mathlib.Core.Bool.{Bool, not, _&&_}
 use Prim.Native.Nat.{ℕ, _+_, _*_, _/_, _%_}
 use lib.Dec.{eqb}
 use Rattle.bits.specs.Bit.{hasBit, weightOf}
-use Rattle.bus.specs.declared.kind.Kind.{Kind}
 use Rattle.bus.specs.declared.status.Status.{Status}
 use Rattle.bus.specs.Command.{isBroadcast, isMode, modeCodeOf}
-use Rattle.bus.specs.Kind.{isIllegal}
 
 -- 15 to 11 station, 10 message error, 8 service request, 4 broadcast, 3 busy, 2 subsystem,
 -- 1 bus control, 0 terminal flag; the rest zero
@@ -22,22 +20,22 @@ statusWord status =
     + weightOf (status .flag) 1
 
 -- bus control is answered to legal mode code 0 only
-abbrev pub offersControl : Kind → ℕ → Bool
-offersControl kind command =
-    not (isIllegal kind) && isMode command && eqb (modeCodeOf command) 0
+abbrev pub offersControl : Bool → ℕ → Bool
+offersControl illegal command =
+    not illegal && isMode command && eqb (modeCodeOf command) 0
 
 -- the status that an opening makes. Of the flags, 2 is service request, 3 subsystem, 4 bus control
 -- accepted, 5 terminal flag, which inhibit takes away. An illegal command is an error at once
-unfoldable pub caughtStatus : ℕ → Kind → ℕ → ℕ → Bool → Bool → Status
-caughtStatus station kind command flags busy inhibit =
+unfoldable pub caughtStatus : ℕ → Bool → ℕ → ℕ → Bool → Bool → Status
+caughtStatus station illegal command flags busy inhibit =
     record {
       station = station;
-      error = isIllegal kind;
+      error = illegal;
       request = hasBit flags 4;
       broadcast = isBroadcast command;
       busy = busy;
       subsystem = hasBit flags 8;
-      control = hasBit flags 16 && offersControl kind command;
+      control = hasBit flags 16 && offersControl illegal command;
       flag = hasBit flags 32 && not inhibit;
     }
 

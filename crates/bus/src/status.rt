@@ -3,7 +3,6 @@
 ghost use mathlib.Core.Path.{_≡_};
 ghost use Rattle.bus.specs.Status.{statusWord, caughtStatus, withError};
 use crate::command;
-use crate::kind::Kind;
 
 // A status word by what its bits say.
 pub struct Status {
@@ -18,19 +17,18 @@ pub struct Status {
 }
 
 impl Status {
-    // The status that an opening makes: of the flags as they stand, of the command and its kind, of
-    // busy as the opening found it, and of whether the terminal flag is inhibited.
+    // The status that an opening makes: of the flags as they stand, of the command and whether it
+    // is illegal, of busy as the opening found it, and of whether the terminal flag is inhibited.
     pub fn caught(
         station: u16,
-        kind: Kind,
+        illegal: bool,
         command: u16,
         flags: u16,
         busy: bool,
         inhibit: bool,
     ) -> Status
-        ensures { λ status. ⌜ status ≡ caughtStatus station kind command flags busy inhibit ⌝ }
+        ensures { λ status. ⌜ status ≡ caughtStatus station illegal command flags busy inhibit ⌝ }
     {
-        let illegal = kind.is_illegal();
         let broadcast = command::is_broadcast(command);
         let mode = command::is_mode(command);
         let code = command::mode_code(command);

@@ -1,7 +1,9 @@
 -- Each public contract of the crate allows one outcome alone. Assumes nothing.
 use Rattle.rules.proofs.Determined.{Determined, same}
-use Rattle.message.proofs.format.format_by.Kinds as format-by-kinds
-use Rattle.message.proofs.format.format_by.Reads as format-by-reads
+use Rattle.message.proofs.asked.asked_of.Kinds as asked-of-kinds
+use Rattle.message.proofs.asked.asked_of.Reads as asked-of-reads
+use Rattle.message.proofs.state.OpenMessage.asks.Kinds as asks-kinds
+use Rattle.message.proofs.state.OpenMessage.asks.Reads as asks-reads
 use Rattle.message.proofs.judge.is_own.Kinds as is-own-kinds
 use Rattle.message.proofs.judge.is_own.Reads as is-own-reads
 use Rattle.message.proofs.judge.is_second.Kinds as is-second-kinds
@@ -21,8 +23,11 @@ use Rattle.message.proofs.state.second_of.Reads as second-of-reads
 use Rattle.message.proofs.fitness.is_fit_message.Kinds as is-fit-message-kinds
 use Rattle.message.proofs.fitness.is_fit_message.Reads as is-fit-message-reads
 
-pub format-by : Determined 0 format-by-kinds.ps format-by-kinds.r format-by-reads.Post
-format-by κs arguments result result′ exit exit′ = same
+pub asked-of : Determined 0 asked-of-kinds.ps asked-of-kinds.r asked-of-reads.Post
+asked-of κs arguments result result′ exit exit′ = same
+
+pub asks : Determined 0 asks-kinds.ps asks-kinds.r asks-reads.Post
+asks κs arguments result result′ exit exit′ = same
 
 pub is-own : Determined 0 is-own-kinds.ps is-own-kinds.r is-own-reads.Post
 is-own κs arguments result result′ exit exit′ = same

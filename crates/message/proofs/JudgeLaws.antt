@@ -1,11 +1,11 @@
 -- The laws of `specs/Words.antt` and `specs/Silence.antt`, as the code comes to each decision.
 -- Assumes nothing.
-use mathlib.Core.Path.{_≡_, sym, _∙_}
+use mathlib.Core.Path.{_≡_}
 use mathlib.Core.Bool.{Bool, true, false, not, _&&_, _||_, Bool·beq}
 use Prim.Native.Nat.{ℕ}
-use borrow.Author.Tests.{eq-eqb, ne-eqb, not-true, not-false}
+use borrow.Author.Tests.{eq-eqb, ne-eqb, not-false}
 use Rattle.bus.specs.Command.{addressOf}
-use Rattle.message.specs.declared.format.Format.{Format}
+use Rattle.message.specs.declared.asked.Asked.{Asked}
 use Rattle.message.specs.declared.judge.WordAct.{WordAct}
 use Rattle.message.specs.declared.judge.WordAct.the-variants.{
   Ignore,
@@ -71,45 +71,45 @@ pub ruleset answering = (status-answers, status-strange)
 
 -- ---- by the stage
 
-module _ (act : WordAct) (stage : Stage) (station : ℕ) (format : Format) (message : OpenMessage)
+module _ (act : WordAct) (stage : Stage) (station : ℕ) (asked : Asked) (message : OpenMessage)
     (word : Word) where
-  pub word-in-data : stage ≡ Data → act ≡ inData station format message word
-      → act ≡ wordInStage stage station format message word
+  pub word-in-data : stage ≡ Data → act ≡ inData station asked message word
+      → act ≡ wordInStage stage station asked message word
   word-in-data is same = rw is same
 
   pub word-in-second-command : stage ≡ SecondCommand → act ≡ inSecondCommand word
-      → act ≡ wordInStage stage station format message word
+      → act ≡ wordInStage stage station asked message word
   word-in-second-command is same = rw is same
 
   pub word-in-awaiting-status : (second : ℕ) → stage ≡ AwaitingStatus
       → second ≡ secondOf (message .second) → act ≡ inAwaitingStatus second word
-      → act ≡ wordInStage stage station format message word
+      → act ≡ wordInStage stage station asked message word
   word-in-awaiting-status second is is-second same = rw (is, ← is-second) same
 
   pub word-in-skipping : stage ≡ Skipping → act ≡ Ignore
-      → act ≡ wordInStage stage station format message word
+      → act ≡ wordInStage stage station asked message word
   word-in-skipping is same = rw is same
 
 pub ruleset word-stages =
     (word-in-data, word-in-second-command, word-in-awaiting-status, word-in-skipping)
 
-module _ (act : SilenceAct) (stage : Stage) (format : Format) (message : OpenMessage) where
-  pub silence-in-data : stage ≡ Data → act ≡ silenceInStage Data format message
-      → act ≡ silenceInStage stage format message
+module _ (act : SilenceAct) (stage : Stage) (asked : Asked) (message : OpenMessage) where
+  pub silence-in-data : stage ≡ Data → act ≡ silenceInStage Data asked message
+      → act ≡ silenceInStage stage asked message
   silence-in-data is same = rw is same
 
   pub silence-in-second-command : stage ≡ SecondCommand
-      → act ≡ silenceInStage SecondCommand format message
-      → act ≡ silenceInStage stage format message
+      → act ≡ silenceInStage SecondCommand asked message
+      → act ≡ silenceInStage stage asked message
   silence-in-second-command is same = rw is same
 
   pub silence-in-awaiting-status : stage ≡ AwaitingStatus
-      → act ≡ silenceInStage AwaitingStatus format message
-      → act ≡ silenceInStage stage format message
+      → act ≡ silenceInStage AwaitingStatus asked message
+      → act ≡ silenceInStage stage asked message
   silence-in-awaiting-status is same = rw is same
 
-  pub silence-in-skipping : stage ≡ Skipping → act ≡ silenceInStage Skipping format message
-      → act ≡ silenceInStage stage format message
+  pub silence-in-skipping : stage ≡ Skipping → act ≡ silenceInStage Skipping asked message
+      → act ≡ silenceInStage stage asked message
   silence-in-skipping is same = rw is same
 
 pub ruleset silence-stages =
@@ -117,11 +117,11 @@ pub ruleset silence-stages =
 
 -- ---- superseding, elsewhere, or by the stage
 
-module _ (station flags : ℕ) (format : Format) (message : OpenMessage) (word : Word) (own : Bool)
+module _ (station flags : ℕ) (asked : Asked) (message : OpenMessage) (word : Word) (own : Bool)
     (is-own : own ≡ ownCommand station flags word) where
   pub word-supersedes :
       (own && (not (Bool·beq (word .line) (message .line)) || not (word .joined))) ≡ true
-      → Supersede ≡ onWord station flags format message word
+      → Supersede ≡ onWord station flags asked message word
   unfolding onWord
   word-supersedes holds = rw (← is-own, holds)
 
@@ -129,13 +129,13 @@ module _ (station flags : ℕ) (format : Format) (message : OpenMessage) (word :
       (stays : (own && (not (Bool·beq (word .line) (message .line)) || not (word .joined))) ≡ false)
     where
       pub word-elsewhere : not (Bool·beq (word .line) (message .line)) ≡ true
-          → Ignore ≡ onWord station flags format message word
+          → Ignore ≡ onWord station flags asked message word
       unfolding onWord
       word-elsewhere holds = rw (← is-own, stays, holds)
 
       pub word-here : (act : WordAct) → not (Bool·beq (word .line) (message .line)) ≡ false
-          → act ≡ wordInStage (message .stage) station format message word
-          → act ≡ onWord station flags format message word
+          → act ≡ wordInStage (message .stage) station asked message word
+          → act ≡ onWord station flags asked message word
       unfolding onWord
       word-here act fails same = rw (← is-own, stays, fails) same
 

@@ -1,9 +1,11 @@
 -- The mathematics of an open message.
---     FormatLaws     the rows of the format table that read the command
+--     AskedLaws      the rows of the table of what is asked, as the code makes them
+--     AskedBounds    .. and their bounds
 --     JudgeLaws      how the code comes to each decision on a word or a silence
 --     MessageLaws    a message, open or not, taken apart
 --     Determined     each public contract allows one outcome alone
-pub mod FormatLaws
+pub mod AskedLaws
+pub mod AskedBounds
 pub mod JudgeLaws
 pub mod MessageLaws
 pub mod Determined

@@ -1,11 +1,9 @@
 -- Refusal 4: which open messages are fit. Document 01's list, clause by clause; what is not on the
 -- list is free. Definitions only. Assumes nothing.
-use mathlib.Core.Bool.{Bool, true, cond, not, _&&_, _||_}
+use mathlib.Core.Bool.{Bool, true, not, _&&_, _||_}
 use Prim.Native.Nat.{ℕ}
 use lib.Dec.{eqb, leb}
 use Rattle.bus.specs.Command.{addressOf, isBroadcast}
-use Rattle.bus.specs.Kind.{kindOf, isIllegal}
-use Rattle.message.specs.declared.format.Format.{Format}
 use Rattle.message.specs.declared.state.Stage.{Stage}
 use Rattle.message.specs.declared.state.Stage.the-variants.{
   Data,
@@ -19,7 +17,7 @@ use Rattle.message.specs.declared.state.OpenMessage.{OpenMessage}
 use Rattle.message.specs.declared.state.Message.{Message}
 use Rattle.message.specs.declared.state.Message.the-variants.{Idle, Open}
 use Rattle.message.specs.Message.{hasSecond}
-use Rattle.message.specs.Format.{formatBy}
+use Rattle.message.specs.Asked.{asks}
 use Rattle.message.specs.Words.{isSecond}
 
 -- after a second command only data receives, that command as rule 6 takes it
@@ -42,11 +40,9 @@ fitOpen station message =
     (eqb (addressOf (message .command)) station || isBroadcast (message .command))
     && leb (message .block) 255
     && leb (message .home) 255
-    && leb (message .taken) (formatBy (kindOf (message .command)) (message .command) .takes)
-    && fitSecond (message .second) station (message .command)
-    (formatBy (kindOf (message .command)) (message .command) .receive)
-    && fitStage (message .stage) (isIllegal (kindOf (message .command))) (message .second)
-    (message .taken)
+    && leb (message .taken) (asks message .takes)
+    && fitSecond (message .second) station (message .command) (asks message .receive)
+    && fitStage (message .stage) (asks message .illegal) (message .second) (message .taken)
 
 abbrev pub fitMessage : Message → ℕ → Bool
 fitMessage Idle station = true

@@ -4,7 +4,7 @@ use mathlib.Core.Bool.{Bool, cond, not, _&&_, _||_, Bool·beq}
 use Prim.Native.Nat.{ℕ, _+_, _%_}
 use lib.Dec.{eqb, leb}
 use Rattle.bus.specs.Command.{addressOf, modeCodeOf, isTransmit, isBroadcast, isMode}
-use Rattle.message.specs.declared.format.Format.{Format}
+use Rattle.message.specs.declared.asked.Asked.{Asked}
 use Rattle.message.specs.declared.judge.WordAct.{WordAct}
 use Rattle.message.specs.declared.judge.WordAct.the-variants.{
   Ignore,
@@ -61,16 +61,16 @@ firstCommand station command value =
 -- ---- the rules, by the message's stage
 
 -- rules 1, 3, 5, 6, 7, 8
-unfoldable pub inData : ℕ → Format → OpenMessage → Word → WordAct
-inData station format message word =
+unfoldable pub inData : ℕ → Asked → OpenMessage → Word → WordAct
+inData station asked message word =
     cond (not (word .sound)) (Fault 1)
     (cond (not (word .joined)) (Fault 3)
-    (cond (leb (format .takes) (message .taken)) (Fault 4)
+    (cond (leb (asked .takes) (message .taken)) (Fault 4)
     (cond
-    (word .sync && format .receive && eqb (message .taken) 0 && not (hasSecond (message .second)))
+    (word .sync && asked .receive && eqb (message .taken) 0 && not (hasSecond (message .second)))
     (firstCommand station (message .command) (word .value))
     (cond (word .sync) (Fault 6)
-    (cond (message .busy && format .yields)
+    (cond (message .busy && asked .yields)
     (Check (message .taken + 1))
     (Store (message .taken + 1)))))))
 
@@ -86,20 +86,20 @@ inAwaitingStatus second word =
     (cond (not (word .sync)) (Fault 6)
     (cond (eqb (addressOf (word .value)) (addressOf second)) TakeStatus (Fault 5)))
 
-abbrev pub wordInStage : Stage → ℕ → Format → OpenMessage → Word → WordAct
-wordInStage Data station format message word = inData station format message word
-wordInStage SecondCommand station format message word = inSecondCommand word
-wordInStage AwaitingStatus station format message word =
+abbrev pub wordInStage : Stage → ℕ → Asked → OpenMessage → Word → WordAct
+wordInStage Data station asked message word = inData station asked message word
+wordInStage SecondCommand station asked message word = inSecondCommand word
+wordInStage AwaitingStatus station asked message word =
     inAwaitingStatus (secondOf (message .second)) word
-wordInStage Skipping station format message word = Ignore
+wordInStage Skipping station asked message word = Ignore
 
 -- an own command on the other line, or unjoined on the same line, supersedes; other words on the
 -- other line do nothing; else the rules
-unfoldable pub onWord : ℕ → ℕ → Format → OpenMessage → Word → WordAct
-onWord station flags format message word =
+unfoldable pub onWord : ℕ → ℕ → Asked → OpenMessage → Word → WordAct
+onWord station flags asked message word =
     cond
     (ownCommand station flags word
     && (not (Bool·beq (word .line) (message .line)) || not (word .joined)))
     Supersede
     (cond (not (Bool·beq (word .line) (message .line))) Ignore
-    (wordInStage (message .stage) station format message word))
+    (wordInStage (message .stage) station asked message word))

@@ -1,7 +1,6 @@
 // Refusal 4: whether an open message is fit.
 ghost use mathlib.Core.Path.{_≡_};
 ghost use Rattle.message.specs.Fitness.{fitSecond, fitStage, fitOpen, fitMessage};
-use crate::format;
 use crate::judge;
 use crate::state;
 use crate::state::Message;
@@ -9,7 +8,6 @@ use crate::state::OpenMessage;
 use crate::state::Second;
 use crate::state::Stage;
 use bus::command;
-use bus::kind;
 
 // After a second command only data receives, that command as rule 6 takes it.
 fn is_fit_second(second: Second, station: u16, command: u16, receive: bool) -> bool
@@ -42,17 +40,15 @@ fn is_fit_open(station: u16, message: OpenMessage) -> bool
 {
     let address = command::address(message.command);
     let broadcast = command::is_broadcast(message.command);
-    let kind = kind::kind_of(message.command);
-    let format = format::format_by(kind, message.command);
+    let asked = message.asks();
     let second = message.second;
     let stage = message.stage;
-    let illegal = kind.is_illegal();
-    let fit_second = is_fit_second(second, station, message.command, format.receive);
-    let fit_stage = is_fit_stage(stage, illegal, second, message.taken);
+    let fit_second = is_fit_second(second, station, message.command, asked.receive);
+    let fit_stage = is_fit_stage(stage, asked.illegal, second, message.taken);
     ((address == station) | broadcast)
         & (message.block <= 255)
         & (message.home <= 255)
-        & (message.taken <= format.takes)
+        & (message.taken <= asked.takes)
         & fit_second
         & fit_stage
 }

@@ -1,6 +1,5 @@
 // What a word or a silence does to an open message: the decision alone, which looks at no memory.
 ghost use mathlib.Core.Path.{_≡_};
-ghost use Rattle.message.specs.Message.{hasSecond, secondOf};
 ghost use Rattle.message.specs.Words.{ownCommand};
 ghost use Rattle.message.specs.Words.{
   asksForData,
@@ -14,7 +13,7 @@ ghost use Rattle.message.specs.Words.{
   onWord,
 };
 ghost use Rattle.message.specs.Silence.{silenceInStage, onSilence};
-use crate::format::Format;
+use crate::asked::Asked;
 use crate::state;
 use crate::state::OpenMessage;
 use crate::state::Stage;
@@ -105,18 +104,18 @@ fn first_command(station: u16, command: u16, value: u16) -> WordAct
 }
 
 // Rules 1, 3, 5, 6, 7 and 8.
-fn in_data(station: u16, format: Format, message: OpenMessage, word: Word) -> WordAct
-    ensures { λ act. ⌜ act ≡ inData station format message word ⌝ }
+fn in_data(station: u16, asked: Asked, message: OpenMessage, word: Word) -> WordAct
+    ensures { λ act. ⌜ act ≡ inData station asked message word ⌝ }
 {
     let unsound = !word.sound;
     let unjoined = !word.joined;
     let sync = word.sync;
     let taken = message.taken;
-    let takes = format.takes;
+    let takes = asked.takes;
     let second = message.second;
     let answered = state::has_second(second);
-    let first = sync & format.receive & (taken == 0) & !answered;
-    let kept = message.busy & format.yields;
+    let first = sync & asked.receive & (taken == 0) & !answered;
+    let kept = message.busy & asked.yields;
     if unsound {
         return WordAct::Fault(1);
     }
@@ -176,14 +175,14 @@ fn in_awaiting_status(second: u16, word: Word) -> WordAct
 fn word_in_stage(
     stage: Stage,
     station: u16,
-    format: Format,
+    asked: Asked,
     message: OpenMessage,
     word: Word,
 ) -> WordAct
-    ensures { λ act. ⌜ act ≡ wordInStage stage station format message word ⌝ }
+    ensures { λ act. ⌜ act ≡ wordInStage stage station asked message word ⌝ }
 {
     match stage {
-        Stage::Data => in_data(station, format, message, word),
+        Stage::Data => in_data(station, asked, message, word),
         Stage::SecondCommand => in_second_command(word),
         Stage::AwaitingStatus => {
             let second = message.second;
@@ -197,11 +196,11 @@ fn word_in_stage(
 pub fn on_word(
     station: u16,
     flags: u16,
-    format: Format,
+    asked: Asked,
     message: OpenMessage,
     word: Word,
 ) -> WordAct
-    ensures { λ act. ⌜ act ≡ onWord station flags format message word ⌝ }
+    ensures { λ act. ⌜ act ≡ onWord station flags asked message word ⌝ }
 {
     let own = is_own(station, flags, word);
     let elsewhere = !(word.line == message.line);
@@ -213,15 +212,15 @@ pub fn on_word(
     if elsewhere {
         return WordAct::Ignore;
     }
-    word_in_stage(stage, station, format, message, word)
+    word_in_stage(stage, station, asked, message, word)
 }
 
-fn silence_in_stage(stage: Stage, format: Format, message: OpenMessage) -> SilenceAct
-    ensures { λ act. ⌜ act ≡ silenceInStage stage format message ⌝ }
+fn silence_in_stage(stage: Stage, asked: Asked, message: OpenMessage) -> SilenceAct
+    ensures { λ act. ⌜ act ≡ silenceInStage stage asked message ⌝ }
 {
     match stage {
         Stage::Data => {
-            if message.taken < format.takes {
+            if message.taken < asked.takes {
                 return SilenceAct::Fault(3);
             }
             SilenceAct::End
@@ -233,13 +232,13 @@ fn silence_in_stage(stage: Stage, format: Format, message: OpenMessage) -> Silen
 }
 
 // A silence while a message is open.
-pub fn on_silence(format: Format, message: OpenMessage, line: bool) -> SilenceAct
-    ensures { λ act. ⌜ act ≡ onSilence format message line ⌝ }
+pub fn on_silence(asked: Asked, message: OpenMessage, line: bool) -> SilenceAct
+    ensures { λ act. ⌜ act ≡ onSilence asked message line ⌝ }
 {
     let elsewhere = !(line == message.line);
     let stage = message.stage;
     if elsewhere {
         return SilenceAct::Ignore;
     }
-    silence_in_stage(stage, format, message)
+    silence_in_stage(stage, asked, message)
 }

@@ -1,6 +1,6 @@
-// An open message. Read `state` first: what it carries. `format` says what each kind of command
+// An open message. Read `state` first: what it carries. `asked` says what each kind of command
 // asks of the card, `judge` what a word or a silence is to do to it, `fitness` which ones are fit.
+pub mod asked;
 pub mod fitness;
-pub mod format;
 pub mod judge;
 pub mod state;

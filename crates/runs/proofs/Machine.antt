@@ -18,7 +18,7 @@ use Rattle.terminal.specs.State.{
   coreAtSetup,
 }
 use Rattle.message.specs.Message.{further, movedMessage}
-use Rattle.message.specs.Format.{formatBy}
+use Rattle.message.specs.Asked.{askedBy}
 use Rattle.message.specs.Words.{ownCommand}
 use Rattle.terminal.specs.Opening.{openedMessage, openedStatus, openedCore, opening}
 use Rattle.message.specs.Words.{inData, inSecondCommand, inAwaitingStatus, onWord}
@@ -84,7 +84,7 @@ unfolding coreAtSetup terminalAtSetup setupAction withMemory withoutMemory
 setups = 0
 
 openings : ℕ
-unfolding formatBy ownCommand openedMessage openedStatus openedCore opening openedBy
+unfolding askedBy ownCommand openedMessage openedStatus openedCore opening openedBy
 openings = 0
 
 rules : ℕ

@@ -1,5 +1,5 @@
 -- The laws of `specs/Closing.antt`, as the code puts a closing together. Assumes nothing.
-use mathlib.Core.Path.{_≡_, refl}
+use mathlib.Core.Path.{_≡_}
 use mathlib.Core.Bool.{Bool, true, false, cond, not, _&&_, _||_}
 use mathlib.Core.List.{List}
 use Prim.Native.Nat.{ℕ}
@@ -11,7 +11,7 @@ use Rattle.card.specs.Memory.{withService, withLink}
 use Rattle.card.specs.StateWord.{stateWord}
 use Rattle.card.specs.Time.{ticksOf}
 use Rattle.queue.specs.declared.Queue.{Queue}
-use Rattle.message.specs.declared.format.Format.{Format}
+use Rattle.message.specs.declared.asked.Asked.{Asked}
 use Rattle.message.specs.declared.state.OpenMessage.{OpenMessage}
 use Rattle.message.specs.declared.state.Message.the-variants.{Idle}
 use Rattle.terminal.specs.declared.state.Shut.{Shut}
@@ -57,25 +57,25 @@ state-is code words message broadcast second word is-broadcast is-second is-word
 
 -- ---- memory, on each way
 
-module _ (format : Format) (state time : ℕ) (message : OpenMessage) (ram : List ℕ) where
-  pub ram-without-block : not (format .block) ≡ true → ram ≡ closedRam format state time message ram
+module _ (asked : Asked) (state time : ℕ) (message : OpenMessage) (ram : List ℕ) where
+  pub ram-without-block : not (asked .block) ≡ true → ram ≡ closedRam asked state time message ram
   unfolding closedRam
-  ram-without-block none = rw (not-true (format .block) none)
+  ram-without-block none = rw (not-true (asked .block) none)
 
   module _ (ticks : ℕ) (served : List ℕ)
-      (has : not (format .block) ≡ false) (is-ticks : ticks ≡ ticksOf (message .opened) time)
+      (has : not (asked .block) ≡ false) (is-ticks : ticks ≡ ticksOf (message .opened) time)
       (is-served : served ≡ withService ram (message .block) state time ticks) where
-    pub ram-after-a-move : message .moved ≡ true → served ≡ closedRam format state time message ram
+    pub ram-after-a-move : message .moved ≡ true → served ≡ closedRam asked state time message ram
     unfolding closedRam
     ram-after-a-move moved =
-        rw (not-false (format .block) has, moved, ← is-ticks) is-served
+        rw (not-false (asked .block) has, moved, ← is-ticks) is-served
 
     pub ram-with-link : (new : List ℕ) → message .moved ≡ false
-        → new ≡ withLink served (message .block) (message .home) (format .cell)
-        → new ≡ closedRam format state time message ram
+        → new ≡ withLink served (message .block) (message .home) (asked .cell)
+        → new ≡ closedRam asked state time message ram
     unfolding closedRam
     ram-with-link new stays is-new =
-        rw (not-false (format .block) has, stays, ← is-ticks, ← is-served) is-new
+        rw (not-false (asked .block) has, stays, ← is-ticks, ← is-served) is-new
 
 pub ruleset rams = (ram-without-block, ram-after-a-move, ram-with-link)
 
@@ -88,26 +88,26 @@ pub replies-when : (core : Core) (message : OpenMessage) (broadcast shut : Bool)
 unfolding replies
 replies-when core message broadcast shut is-broadcast is-shut = rw (is-broadcast, is-shut)
 
-module _ (format : Format) (core : Core) (message : OpenMessage) (given : Bool)
+module _ (asked : Asked) (core : Core) (message : OpenMessage) (given : Bool)
     (is-given : given ≡ replies core message) where
-  pub reply-silent : not given ≡ true → Silent ≡ replyOf format core message
+  pub reply-silent : not given ≡ true → Silent ≡ replyOf asked core message
   unfolding replyOf
   reply-silent none = rw (← is-given, none)
 
   module _ (some : not given ≡ false) where
-    pub reply-last : format .last ≡ true
-        → Last (core .status) (core .last) ≡ replyOf format core message
+    pub reply-last : asked .last ≡ true
+        → Last (core .status) (core .last) ≡ replyOf asked core message
     unfolding replyOf
     reply-last last = rw (← is-given, some, last)
 
-    module _ (other : format .last ≡ false) (sends : ℕ)
-        (is-sends : sends ≡ unlessBusy format message (format .sends)) where
-      pub reply-status : sends ≡ 0 → Status (core .status) ≡ replyOf format core message
+    module _ (other : asked .last ≡ false) (sends : ℕ)
+        (is-sends : sends ≡ unlessBusy asked message (asked .sends)) where
+      pub reply-status : sends ≡ 0 → Status (core .status) ≡ replyOf asked core message
       unfolding replyOf
       reply-status none = rw (← is-given, some, other, ← is-sends, eq-eqb sends 0 none)
 
       pub reply-words : (sends ≡ 0 → ⊥)
-          → Words (core .status) (message .block) (format .sends) ≡ replyOf format core message
+          → Words (core .status) (message .block) (asked .sends) ≡ replyOf asked core message
       unfolding replyOf
       reply-words many = rw (← is-given, some, other, ← is-sends, ne-eqb sends 0 many)
 
@@ -115,14 +115,14 @@ pub ruleset replying = (reply-silent, reply-last, reply-status, reply-words)
 
 -- ---- the words of the state word
 
-pub end-words-are : (format : Format) (core : Core) (message : OpenMessage) (given : Bool)
+pub end-words-are : (asked : Asked) (core : Core) (message : OpenMessage) (given : Bool)
     (moved words : ℕ)
     → given ≡ replies core message
-    → moved ≡ cond (eqb (format .takes) 0) (cond given (format .sends) 0) (message .taken)
-    → words ≡ unlessBusy format message moved
-    → words ≡ endWords format core message
+    → moved ≡ cond (eqb (asked .takes) 0) (cond given (asked .sends) 0) (message .taken)
+    → words ≡ unlessBusy asked message moved
+    → words ≡ endWords asked core message
 unfolding endWords
-end-words-are format core message given moved words is-given is-moved is-words =
+end-words-are asked core message given moved words is-given is-moved is-words =
     rw (← is-given, ← is-moved) is-words
 
 -- ---- shut lines and inhibit
@@ -145,26 +145,26 @@ switch-is code line core shut inhibit is-shut is-inhibit = rw (is-shut, is-inhib
 
 -- ---- a fault, and the sound end
 
-module _ (format : Format) (time : ℕ) (message : OpenMessage) (old core idle : Core)
+module _ (asked : Asked) (time : ℕ) (message : OpenMessage) (old core idle : Core)
     (queue joined : Queue) (ram left : List ℕ) (words state : ℕ)
-    (is-left : left ≡ closedRam format state time message ram)
-    (is-joined : joined ≡ closedQueue format message queue)
+    (is-left : left ≡ closedRam asked state time message ram)
+    (is-joined : joined ≡ closedQueue asked message queue)
     (is-idle : idle ≡ withMessage Idle core) where
   pub fault-is : (code marked : ℕ)
-      → words ≡ unlessBusy format message (message .taken)
+      → words ≡ unlessBusy asked message (message .taken)
       → state ≡ stateOf code words message
       → marked ≡ withError (old .status)
       → core ≡ withStatus marked old
-      → card idle joined left ≡ faulted format code time message (card old queue ram)
+      → card idle joined left ≡ faulted asked code time message (card old queue ram)
   unfolding faulted closing
   fault-is code marked is-words is-state is-marked is-core =
       rw (is-idle, is-core, is-marked, is-joined, is-left, is-state, is-words)
 
   pub end-is :
-      words ≡ endWords format old message
+      words ≡ endWords asked old message
       → state ≡ stateOf 0 words message
-      → core ≡ switched (format .switch) (message .line) old
-      → card idle joined left ≡ ended format time message (card old queue ram)
+      → core ≡ switched (asked .switch) (message .line) old
+      → card idle joined left ≡ ended asked time message (card old queue ram)
   unfolding ended closing
   end-is is-words is-state is-core =
       rw (is-idle, is-core, is-joined, is-left, is-state, is-words)

@@ -1,6 +1,5 @@
 -- Each public contract of the crate allows one outcome alone: one core, one answer, and one content
 -- of every cell and every queue place that was lent. Assumes nothing.
-use mathlib.Core.Path.{_≡_}
 use denote.Ref.{now}
 use Rattle.rules.proofs.Determined.{Determined, DeterminedAs, same}
 use Rattle.queue.specs.Queue.{queue}

@@ -13,7 +13,7 @@ use Rattle.message.specs.declared.judge.WordAct.the-variants.{
   Supersede,
   Drop,
 }
-use Rattle.message.specs.declared.format.Format.{Format}
+use Rattle.message.specs.declared.asked.Asked.{Asked}
 use Rattle.message.specs.declared.state.OpenMessage.{OpenMessage}
 use Rattle.message.specs.declared.state.Message.{Message}
 use Rattle.message.specs.declared.state.Message.the-variants.{Idle, Open}
@@ -23,18 +23,18 @@ use Rattle.terminal.specs.State.{Card}
 use Rattle.terminal.specs.Event.{replied, opens, quietly}
 use Rattle.terminal.specs.WordStep.{wordDone, wordMet, wordStep}
 
-word-done-silent : (act : WordAct) (format : Format) (message : OpenMessage) (heard : Word)
+word-done-silent : (act : WordAct) (asked : Asked) (message : OpenMessage) (heard : Word)
     (old : Card)
-    → wordDone act format message heard old .answer ≡ replied Silent
+    → wordDone act asked message heard old .answer ≡ replied Silent
 unfolding wordDone
-word-done-silent Ignore format message heard old = refl
-word-done-silent (Store taken) format message heard old = refl
-word-done-silent (Check taken) format message heard old = refl
-word-done-silent (TakeSecond value) format message heard old = refl
-word-done-silent TakeStatus format message heard old = refl
-word-done-silent (Fault code) format message heard old = refl
-word-done-silent Supersede format message heard old = refl
-word-done-silent Drop format message heard old = refl
+word-done-silent Ignore asked message heard old = refl
+word-done-silent (Store taken) asked message heard old = refl
+word-done-silent (Check taken) asked message heard old = refl
+word-done-silent (TakeSecond value) asked message heard old = refl
+word-done-silent TakeStatus asked message heard old = refl
+word-done-silent (Fault code) asked message heard old = refl
+word-done-silent Supersede asked message heard old = refl
+word-done-silent Drop asked message heard old = refl
 
 word-met-silent : (message : Message) (heard : Word) (old : Card)
     → wordMet message heard old .answer ≡ replied Silent

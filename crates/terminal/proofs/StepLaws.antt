@@ -5,12 +5,10 @@ use mathlib.Core.Bool.{Bool, true, false, cond, not}
 use mathlib.Core.List.{List}
 use Prim.Native.Nat.{ℕ}
 use borrow.Author.Tests.{not-true, not-false}
-use Rattle.bus.specs.declared.kind.Kind.{Kind}
-use Rattle.bus.specs.Kind.{kindOf}
 use Rattle.card.specs.Memory.{withCell}
 use Rattle.queue.specs.declared.Ring.{Ring}
 use Rattle.queue.specs.Queue.{queue}
-use Rattle.message.specs.declared.format.Format.{Format}
+use Rattle.message.specs.declared.asked.Asked.{Asked}
 use Rattle.message.specs.declared.judge.WordAct.{WordAct}
 use Rattle.message.specs.declared.judge.WordAct.the-variants as word-acts
 use Rattle.message.specs.declared.judge.SilenceAct.{SilenceAct}
@@ -29,7 +27,7 @@ use Rattle.terminal.specs.declared.state.Held.{Held}
 use Rattle.terminal.specs.declared.state.Reply.{Reply}
 use Rattle.terminal.specs.declared.state.Reply.the-variants.{Silent}
 use Rattle.message.specs.Message.{further}
-use Rattle.message.specs.Format.{formatBy, formatOf}
+use Rattle.message.specs.Asked.{asks}
 use Rattle.message.specs.Words.{ownCommand, onWord}
 use Rattle.message.specs.Silence.{onSilence}
 use Rattle.terminal.specs.State.{Card, card, withMessage}
@@ -101,14 +99,14 @@ module _ (act : WordAct) (deed : WordDeed) (message : OpenMessage) (word : Word)
     word-stored taken stored held stores is-stored is-held =
         done-by _ (rw (stores, is-stored, is-held))
 
-    pub word-faulted : (code : ℕ) (kind : Kind) (format : Format) (new : Card)
+    pub word-faulted : (code : ℕ) (asked : Asked) (new : Card)
         → deed ≡ word-deeds.Fault code
-        → kind ≡ kindOf (message .command) → format ≡ formatBy kind (message .command)
-        → new ≡ faulted format code (word .time) message before
+        → asked ≡ asks message
+        → new ≡ faulted asked code (word .time) message before
         → new ≡ doneBy act word before
     unfolding wordDeedDone
-    word-faulted code kind format new faults is-kind is-format is-new =
-        done-by new (rw (faults, ← is-kind, ← is-format) is-new)
+    word-faulted code asked new faults is-asked is-new =
+        done-by new (rw (faults, ← is-asked) is-new)
 
 pub idle-left : (act : WordAct) (word : Word) (core : Core) (places : List ℕ) (ring : Ring)
     (ram : List ℕ) → core .message ≡ Idle
@@ -136,13 +134,13 @@ module _ (word : Word) (core : Core) where
     pub other-ignored : own ≡ false → word-acts.Ignore ≡ actOn word core
     other-ignored fails = act-by Idle word-acts.Ignore idle (rw (← is-own, fails))
 
-  pub open-judged : (message : OpenMessage) (kind : Kind) (format : Format) (act : WordAct)
+  pub open-judged : (message : OpenMessage) (asked : Asked) (act : WordAct)
       → core .message ≡ Open message
-      → kind ≡ kindOf (message .command) → format ≡ formatBy kind (message .command)
-      → act ≡ onWord (core .station) (core .flags) format message word
+      → asked ≡ asks message
+      → act ≡ onWord (core .station) (core .flags) asked message word
       → act ≡ actOn word core
-  open-judged message kind format act is is-kind is-format is-act =
-      act-by (Open message) act is (rw (← is-kind, ← is-format) is-act)
+  open-judged message asked act is is-asked is-act =
+      act-by (Open message) act is (rw (← is-asked) is-act)
 
 pub ruleset word-judging = (own-opens, other-ignored, open-judged)
 
@@ -150,7 +148,7 @@ pub ruleset word-judging = (own-opens, other-ignored, open-judged)
 
 deeds-of-words : (act : WordAct) (message : OpenMessage) (word : Word) (old : Card)
     → openedIf (opensBy act) word (wordDeedDone (wordDeed act message) message word old)
-    ≡ wordDone act (formatOf (message .command)) message word old .card
+    ≡ wordDone act (asks message) message word old .card
 unfolding wordDeedDone wordDone
 deeds-of-words word-acts.Ignore message word old = refl
 deeds-of-words (word-acts.Store taken) message word old = refl
@@ -202,13 +200,13 @@ pub ruleset word-opening = (word-left, word-opened)
 
 -- ---- a silence
 
-module _ (act : SilenceAct) (format : Format) (message : OpenMessage) (time : ℕ)
+module _ (act : SilenceAct) (asked : Asked) (message : OpenMessage) (time : ℕ)
     (core : Core) (places : List ℕ) (ring : Ring) (ram : List ℕ) where
   abbrev waiting : Card
   waiting = card core (queue places ring) ram
 
   pub silence-rested : act ≡ silence-acts.Ignore
-      → waiting ≡ silenceDone act format message time waiting .card
+      → waiting ≡ silenceDone act asked message time waiting .card
   unfolding silenceDone
   silence-rested is = rw is
 
@@ -216,39 +214,39 @@ module _ (act : SilenceAct) (format : Format) (message : OpenMessage) (time : �
       → held
       ≡ goingOn (further AwaitingStatus (message .second) (message .taken) message) core ring
       → card (held .core) (queue places (held .ring)) ram
-      ≡ silenceDone act format message time waiting .card
+      ≡ silenceDone act asked message time waiting .card
   unfolding silenceDone
   status-awaited held is is-held = rw (is, is-held)
 
   pub silence-faulted : (code : ℕ) (new : Card) → act ≡ silence-acts.Fault code
-      → new ≡ faulted format code time message waiting
-      → new ≡ silenceDone act format message time waiting .card
+      → new ≡ faulted asked code time message waiting
+      → new ≡ silenceDone act asked message time waiting .card
   unfolding silenceDone
   silence-faulted code new is is-new = rw is is-new
 
   pub silence-ended : (new : Card) → act ≡ silence-acts.End
-      → new ≡ ended format time message waiting
-      → new ≡ silenceDone act format message time waiting .card
+      → new ≡ ended asked time message waiting
+      → new ≡ silenceDone act asked message time waiting .card
   unfolding silenceDone
   silence-ended new is is-new = rw is is-new
 
 pub ruleset silence-acting = (silence-rested, status-awaited, silence-faulted, silence-ended)
 
-pub reply-of : (act known : SilenceAct) (format : Format) (message : OpenMessage) (core : Core)
-    (reply : Reply) → act ≡ known → reply ≡ replyTo known format message core
-    → reply ≡ replyTo act format message core
-reply-of act known format message core reply is same = rw is same
+pub reply-of : (act known : SilenceAct) (asked : Asked) (message : OpenMessage) (core : Core)
+    (reply : Reply) → act ≡ known → reply ≡ replyTo known asked message core
+    → reply ≡ replyTo act asked message core
+reply-of act known asked message core reply is same = rw is same
 
-silences-reply : (act : SilenceAct) (format : Format) (message : OpenMessage) (time : ℕ)
+silences-reply : (act : SilenceAct) (asked : Asked) (message : OpenMessage) (time : ℕ)
     (old : Card)
-    → shown (silenceDone act format message time old .card)
-    (replied (replyTo act format message (old .core)))
-    ≡ seen (silenceDone act format message time old)
+    → shown (silenceDone act asked message time old .card)
+    (replied (replyTo act asked message (old .core)))
+    ≡ seen (silenceDone act asked message time old)
 unfolding silenceDone
-silences-reply silence-acts.Ignore format message time old = refl
-silences-reply silence-acts.AwaitStatus format message time old = refl
-silences-reply (silence-acts.Fault code) format message time old = refl
-silences-reply silence-acts.End format message time old = refl
+silences-reply silence-acts.Ignore asked message time old = refl
+silences-reply silence-acts.AwaitStatus asked message time old = refl
+silences-reply (silence-acts.Fault code) asked message time old = refl
+silences-reply silence-acts.End asked message time old = refl
 
 module _ (line : Bool) (time : ℕ) (core : Core) (places : List ℕ) (ring : Ring) (ram : List ℕ) where
   abbrev silent-before : Card
@@ -265,17 +263,17 @@ module _ (line : Bool) (time : ℕ) (core : Core) (places : List ℕ) (ring : Ri
       → shown silent-before (replied Silent) ≡ seen (silenceStep line time silent-before)
   idle-silent idle = silence-step-by Idle idle
 
-  pub open-silent : (message : OpenMessage) (kind : Kind) (format : Format) (act : SilenceAct)
+  pub open-silent : (message : OpenMessage) (asked : Asked) (act : SilenceAct)
       (reply : Reply) (new : Card) → core .message ≡ Open message
-      → kind ≡ kindOf (message .command) → format ≡ formatBy kind (message .command)
-      → act ≡ onSilence format message line
-      → reply ≡ replyTo act format message core
-      → new ≡ silenceDone act format message time silent-before .card
+      → asked ≡ asks message
+      → act ≡ onSilence asked message line
+      → reply ≡ replyTo act asked message core
+      → new ≡ silenceDone act asked message time silent-before .card
       → shown new (replied reply) ≡ seen (silenceStep line time silent-before)
-  open-silent message kind format act reply new is is-kind is-format is-act is-reply is-new =
-      rw (is-new, is-reply, is-act, is-format, is-kind)
-      (silences-reply (onSilence (formatOf (message .command)) message line)
-      (formatOf (message .command)) message time silent-before)
+  open-silent message asked act reply new is is-asked is-act is-reply is-new =
+      rw (is-new, is-reply, is-act, is-asked)
+      (silences-reply (onSilence (asks message) message line)
+      (asks message) message time silent-before)
       ∙ silence-step-by (Open message) is
 
 pub ruleset silence-meeting = (idle-silent, open-silent)

@@ -5,13 +5,12 @@ use Prim.Native.Nat.{ℕ}
 use lib.Dec.{eqb}
 use Rattle.bus.specs.Command.{isBroadcast}
 use Rattle.bus.specs.Status.{withError}
-use Rattle.card.specs.declared.state.State.{State}
 use Rattle.card.specs.Memory.{withService, withLink}
 use Rattle.card.specs.StateWord.{stateWord}
 use Rattle.card.specs.Time.{ticksOf}
 use Rattle.queue.specs.declared.Queue.{Queue}
 use Rattle.queue.specs.Queue.{withJoined}
-use Rattle.message.specs.declared.format.Format.{Format}
+use Rattle.message.specs.declared.asked.Asked.{Asked}
 use Rattle.terminal.specs.declared.state.Shut.{Shut}
 use Rattle.message.specs.declared.state.OpenMessage.{OpenMessage}
 use Rattle.message.specs.declared.state.Message.the-variants.{Idle}
@@ -23,9 +22,9 @@ use Rattle.message.specs.Message.{hasSecond}
 
 -- ---- the state word
 
--- words stored, and words that a reply sends: none under busy where the format yields
-abbrev pub unlessBusy : Format → OpenMessage → ℕ → ℕ
-unlessBusy format message words = cond (message .busy && format .yields) 0 words
+-- words stored, and words that a reply sends: none under busy where the asked yields
+abbrev pub unlessBusy : Asked → OpenMessage → ℕ → ℕ
+unlessBusy asked message words = cond (message .busy && asked .yields) 0 words
 
 unfoldable pub stateOf : ℕ → ℕ → OpenMessage → ℕ
 stateOf code words message =
@@ -46,28 +45,28 @@ abbrev pub linked : Bool → ℕ → ℕ → ℕ → List ℕ → List ℕ
 linked moved block home cell ram = cond moved ram (withLink ram block home cell)
 
 -- 58 to 61, then the link
-unfoldable pub closedRam : Format → ℕ → ℕ → OpenMessage → List ℕ → List ℕ
-closedRam format state time message ram =
-    cond (format .block)
-    (linked (message .moved) (message .block) (message .home) (format .cell)
+unfoldable pub closedRam : Asked → ℕ → ℕ → OpenMessage → List ℕ → List ℕ
+closedRam asked state time message ram =
+    cond (asked .block)
+    (linked (message .moved) (message .block) (message .home) (asked .cell)
     (withService ram (message .block) state time (ticksOf (message .opened) time)))
     ram
 
 -- then, if wanted, the block number joins the queue
-unfoldable pub closedQueue : Format → OpenMessage → Queue → Queue
-closedQueue format message queue =
-    cond (format .block && message .queued) (withJoined (message .block) queue) queue
+unfoldable pub closedQueue : Asked → OpenMessage → Queue → Queue
+closedQueue asked message queue =
+    cond (asked .block && message .queued) (withJoined (message .block) queue) queue
 
-unfoldable pub closing : Format → ℕ → ℕ → OpenMessage → Card → Card
-closing format state time message old =
+unfoldable pub closing : Asked → ℕ → ℕ → OpenMessage → Card → Card
+closing asked state time message old =
     card (withMessage Idle (old .core))
-    (closedQueue format message (old .queue))
-    (closedRam format state time message (old .ram))
+    (closedQueue asked message (old .queue))
+    (closedRam asked state time message (old .ram))
 
 -- a fault closes silently and sets message error
-unfoldable pub faulted : Format → ℕ → ℕ → OpenMessage → Card → Card
-faulted format code time message old =
-    closing format (stateOf code (unlessBusy format message (message .taken)) message) time message
+unfoldable pub faulted : Asked → ℕ → ℕ → OpenMessage → Card → Card
+faulted asked code time message old =
+    closing asked (stateOf code (unlessBusy asked message (message .taken)) message) time message
     (card (withStatus (withError (old .core .status)) (old .core)) (old .queue) (old .ram))
 
 -- ---- the sound end
@@ -79,12 +78,12 @@ replies core message =
     && not (cond (message .line) (core .shut .b) (core .shut .a))
 
 -- status, then words sent: none, the last command, or those of the block
-unfoldable pub replyOf : Format → Core → OpenMessage → Reply
-replyOf format core message =
+unfoldable pub replyOf : Asked → Core → OpenMessage → Reply
+replyOf asked core message =
     cond (not (replies core message)) Silent
-    (cond (format .last) (Last (core .status) (core .last))
-    (cond (eqb (unlessBusy format message (format .sends)) 0) (Status (core .status))
-    (Words (core .status) (message .block) (format .sends))))
+    (cond (asked .last) (Last (core .status) (core .last))
+    (cond (eqb (unlessBusy asked message (asked .sends)) 0) (Status (core .status))
+    (Words (core .status) (message .block) (asked .sends))))
 
 -- 4 shuts and 5 opens the other line; 6 sets and 7 clears inhibit; 8 clears both shuts and inhibit
 unfoldable pub switchedShut : ℕ → Bool → Shut → Shut
@@ -107,12 +106,12 @@ switched code line core =
     withSwitches (switchedShut code line (core .shut)) (switchedInhibit code (core .inhibit)) core
 
 -- the data words stored, or held by the reply given
-unfoldable pub endWords : Format → Core → OpenMessage → ℕ
-endWords format core message =
-    unlessBusy format message
-    (cond (eqb (format .takes) 0) (cond (replies core message) (format .sends) 0) (message .taken))
+unfoldable pub endWords : Asked → Core → OpenMessage → ℕ
+endWords asked core message =
+    unlessBusy asked message
+    (cond (eqb (asked .takes) 0) (cond (replies core message) (asked .sends) 0) (message .taken))
 
-unfoldable pub ended : Format → ℕ → OpenMessage → Card → Card
-ended format time message old =
-    closing format (stateOf 0 (endWords format (old .core) message) message) time message
-    (card (switched (format .switch) (message .line) (old .core)) (old .queue) (old .ram))
+unfoldable pub ended : Asked → ℕ → OpenMessage → Card → Card
+ended asked time message old =
+    closing asked (stateOf 0 (endWords asked (old .core) message) message) time message
+    (card (switched (asked .switch) (message .line) (old .core)) (old .queue) (old .ram))

@@ -3,7 +3,7 @@
 -- only. Assumes nothing.
 use mathlib.Core.Bool.{Bool, true, false, cond}
 use Rattle.card.specs.Memory.{withCell}
-use Rattle.message.specs.declared.format.Format.{Format}
+use Rattle.message.specs.declared.asked.Asked.{Asked}
 use Rattle.message.specs.declared.judge.WordAct.{WordAct}
 use Rattle.message.specs.declared.judge.WordAct.the-variants as word-acts
 use Rattle.message.specs.declared.judge.SilenceAct.{SilenceAct}
@@ -15,7 +15,7 @@ use Rattle.message.specs.declared.state.Message.{Message}
 use Rattle.message.specs.declared.state.Message.the-variants.{Idle, Open}
 use Rattle.bus.specs.declared.word.Word.{Word}
 use Rattle.message.specs.Message.{further}
-use Rattle.message.specs.Format.{formatOf}
+use Rattle.message.specs.Asked.{asks}
 use Rattle.message.specs.Words.{ownCommand, onWord}
 use Rattle.terminal.specs.declared.machine.WordDeed.{WordDeed}
 use Rattle.terminal.specs.declared.machine.WordDeed.the-variants as word-deeds
@@ -33,7 +33,7 @@ abbrev pub actOnMessage : Message → Word → Core → WordAct
 actOnMessage Idle word core =
     cond (ownCommand (core .station) (core .flags) word) word-acts.Drop word-acts.Ignore
 actOnMessage (Open message) word core =
-    onWord (core .station) (core .flags) (formatOf (message .command)) message word
+    onWord (core .station) (core .flags) (asks message) message word
 
 unfoldable pub actOn : Word → Core → WordAct
 actOn word core = actOnMessage (core .message) word core
@@ -69,7 +69,7 @@ wordDeedDone (word-deeds.Store taken) message word old =
     (old .queue)
     (withCell (old .ram) (message .block) (message .taken) (word .value))
 wordDeedDone (word-deeds.Fault code) message word old =
-    faulted (formatOf (message .command)) code (word .time) message old
+    faulted (asks message) code (word .time) message old
 
 abbrev pub doneToMessage : Message → WordAct → Word → Card → Card
 doneToMessage Idle act word old = old
@@ -85,8 +85,8 @@ openedIf opens word left = cond opens (opening word left) left
 -- ---- a silence
 
 -- only a sound end is replied to
-abbrev pub replyTo : SilenceAct → Format → OpenMessage → Core → Reply
-replyTo silence-acts.Ignore format message core = Silent
-replyTo silence-acts.AwaitStatus format message core = Silent
-replyTo (silence-acts.Fault code) format message core = Silent
-replyTo silence-acts.End format message core = replyOf format core message
+abbrev pub replyTo : SilenceAct → Asked → OpenMessage → Core → Reply
+replyTo silence-acts.Ignore asked message core = Silent
+replyTo silence-acts.AwaitStatus asked message core = Silent
+replyTo (silence-acts.Fault code) asked message core = Silent
+replyTo silence-acts.End asked message core = replyOf asked core message

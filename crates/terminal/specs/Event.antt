@@ -2,7 +2,7 @@
 use mathlib.Core.Bool.{Bool, cond}
 use mathlib.Core.List.{List}
 use Prim.Native.Nat.{ℕ}
-use Rattle.message.specs.declared.format.Format.{Format}
+use Rattle.message.specs.declared.asked.Asked.{Asked}
 use Rattle.message.specs.declared.state.OpenMessage.{OpenMessage}
 use Rattle.message.specs.declared.state.Message.the-variants.{Open}
 use Rattle.bus.specs.declared.word.Word.{Word}
@@ -11,7 +11,7 @@ use Rattle.terminal.specs.declared.state.Answer.{Answer}
 use Rattle.terminal.specs.declared.state.Answer.the-variants.{Replied, QueueWord}
 use Rattle.terminal.specs.declared.state.Reply.the-variants.{Silent}
 use Rattle.terminal.specs.State.{Card, card, withMessage}
-use Rattle.message.specs.Format.{formatOf}
+use Rattle.message.specs.Asked.{askedOf}
 use Rattle.terminal.specs.Opening.{opening}
 
 -- words and silences of the bus, and the host's actions
@@ -58,8 +58,8 @@ quietly new = record { card = new; answer = replied Silent; opened = none }
 
 -- ---- the outcomes that come often
 
-unfoldable pub openedBy : Format → Opened
-openedBy format = cond (format .fresh) afresh keeping
+unfoldable pub openedBy : Asked → Opened
+openedBy asked = cond (asked .fresh) afresh keeping
 
 -- the word opens a message
 abbrev pub opens : Word → Card → Outcome
@@ -67,7 +67,7 @@ opens word′ old =
     record {
       card = opening word′ old;
       answer = replied Silent;
-      opened = openedBy (formatOf (word′ .value));
+      opened = openedBy (askedOf (word′ .value));
     }
 
 -- the open message goes on

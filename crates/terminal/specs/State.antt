@@ -1,15 +1,11 @@
 -- The terminal's state: a setter for each field, and setup. Definitions only. Assumes nothing.
-use mathlib.Core.Bool.{Bool, true, false}
+use mathlib.Core.Bool.{Bool, false}
 use mathlib.Core.List.{List}
 use Prim.Native.Nat.{ℕ, _*_, _%_}
 use Rattle.queue.specs.declared.Queue.{Queue}
 use Rattle.terminal.specs.declared.state.Shut.{Shut}
-use Rattle.message.specs.declared.state.Stage.{Stage}
-use Rattle.message.specs.declared.state.Second.{Second}
-use Rattle.message.specs.declared.state.Second.the-variants.{Absent, Command}
-use Rattle.message.specs.declared.state.OpenMessage.{OpenMessage}
 use Rattle.message.specs.declared.state.Message.{Message}
-use Rattle.message.specs.declared.state.Message.the-variants.{Idle, Open}
+use Rattle.message.specs.declared.state.Message.the-variants.{Idle}
 use Rattle.terminal.specs.declared.state.Core.{Core}
 
 -- everything that an event may change: the terminal, by core and queue, and card memory

@@ -1,7 +1,7 @@
 -- A word: what rules 1 to 8 decide is done. Definitions only. Assumes nothing.
 use mathlib.Core.Bool.{cond}
 use Rattle.card.specs.Memory.{withCell}
-use Rattle.message.specs.declared.format.Format.{Format}
+use Rattle.message.specs.declared.asked.Asked.{Asked}
 use Rattle.message.specs.declared.judge.WordAct.{WordAct}
 use Rattle.message.specs.declared.judge.WordAct.the-variants.{
   Ignore,
@@ -21,30 +21,30 @@ use Rattle.message.specs.declared.state.Message.the-variants.{Idle, Open}
 use Rattle.bus.specs.declared.word.Word.{Word}
 use Rattle.terminal.specs.State.{Card, card, withMessage}
 use Rattle.message.specs.Message.{further}
-use Rattle.message.specs.Format.{formatOf}
+use Rattle.message.specs.Asked.{asks}
 use Rattle.message.specs.Words.{ownCommand}
 use Rattle.message.specs.Words.{onWord}
 use Rattle.terminal.specs.Closing.{faulted}
 use Rattle.terminal.specs.Event.{Outcome, quietly, opens, goesOn}
 
-unfoldable pub wordDone : WordAct → Format → OpenMessage → Word → Card → Outcome
-wordDone Ignore format message word old = quietly old
-wordDone (Store taken) format message word old =
+unfoldable pub wordDone : WordAct → Asked → OpenMessage → Word → Card → Outcome
+wordDone Ignore asked message word old = quietly old
+wordDone (Store taken) asked message word old =
     quietly
     (card (withMessage (Open (further Data (message .second) taken message)) (old .core))
     (old .queue)
     (withCell (old .ram) (message .block) (message .taken) (word .value)))
-wordDone (Check taken) format message word old =
+wordDone (Check taken) asked message word old =
     goesOn (further Data (message .second) taken message) old
-wordDone (TakeSecond value) format message word old =
+wordDone (TakeSecond value) asked message word old =
     goesOn (further SecondCommand (Command value) (message .taken) message) old
-wordDone TakeStatus format message word old =
+wordDone TakeStatus asked message word old =
     goesOn (further Data (message .second) (message .taken) message) old
-wordDone (Fault code) format message word old =
-    quietly (faulted format code (word .time) message old)
-wordDone Supersede format message word old =
-    opens word (faulted format 7 (word .time) message old)
-wordDone Drop format message word old = opens word old
+wordDone (Fault code) asked message word old =
+    quietly (faulted asked code (word .time) message old)
+wordDone Supersede asked message word old =
+    opens word (faulted asked 7 (word .time) message old)
+wordDone Drop asked message word old = opens word old
 
 -- with nothing open, any own command opens, joined or not
 abbrev pub wordMet : Message → Word → Card → Outcome
@@ -52,8 +52,8 @@ wordMet Idle word old =
     cond (ownCommand (old .core .station) (old .core .flags) word) (opens word old) (quietly old)
 wordMet (Open message) word old =
     wordDone
-    (onWord (old .core .station) (old .core .flags) (formatOf (message .command)) message word)
-    (formatOf (message .command)) message word old
+    (onWord (old .core .station) (old .core .flags) (asks message) message word)
+    (asks message) message word old
 
 unfoldable pub wordStep : Word → Card → Outcome
 wordStep word old = wordMet (old .core .message) word old

@@ -3,7 +3,7 @@ ghost use mathlib.Core.Path.{_≡_};
 ghost use mathlib.Core.Bool.{cond, true, false};
 ghost use lib.Dec.{eqb};
 ghost use Rattle.queue.specs.Queue.{queue};
-ghost use Rattle.terminal.specs.State.{card, withStatus, withMessage};
+ghost use Rattle.terminal.specs.State.{card};
 ghost use Rattle.terminal.specs.Closing.{
   unlessBusy,
   stateOf,
@@ -29,17 +29,17 @@ use card::place::Block;
 use card::place::Cell;
 use card::state::State;
 use card::time;
-use message::format::Format;
+use message::asked::Asked;
 use message::state;
 use message::state::Message;
 use message::state::OpenMessage;
 use queue::Ring;
 
-// Words stored or sent: none under busy where the format yields.
-fn unless_busy(format: Format, message: OpenMessage, words: u16) -> u16
-    ensures { λ counted. ⌜ counted ≡ unlessBusy format message words ⌝ }
+// Words stored or sent: none under busy where the asked yields.
+fn unless_busy(asked: Asked, message: OpenMessage, words: u16) -> u16
+    ensures { λ counted. ⌜ counted ≡ unlessBusy asked message words ⌝ }
 {
-    let kept = message.busy & format.yields;
+    let kept = message.busy & asked.yields;
     if kept { 0 } else { words }
 }
 
@@ -64,10 +64,10 @@ fn state_of(code: u16, words: u16, message: OpenMessage) -> u16
 
 // Cells 58 to 61, then cell 63 into the opening's table cell unless the host has set the table
 // block since.
-fn close_ram(ram: &mut [u16], format: Format, state: u16, time: u32, message: OpenMessage)
-    ensures { λ _. ⌜ now (ram .exit) ≡ closedRam format state time message (now (ram .entry)) ⌝ }
+fn close_ram(ram: &mut [u16], asked: Asked, state: u16, time: u32, message: OpenMessage)
+    ensures { λ _. ⌜ now (ram .exit) ≡ closedRam asked state time message (now (ram .entry)) ⌝ }
 {
-    let has = format.block;
+    let has = asked.block;
     let moved = message.moved;
     if !has {
         return;
@@ -81,16 +81,16 @@ fn close_ram(ram: &mut [u16], format: Format, state: u16, time: u32, message: Op
         ram,
         Block(message.block),
         Block(message.home),
-        Cell(format.cell),
+        Cell(asked.cell),
     );
 }
 
 // If wanted, the block number joins the queue.
-fn close_queue(ring: Ring, places: &mut [u16; 256], format: Format, message: OpenMessage) -> Ring
+fn close_queue(ring: Ring, places: &mut [u16; 256], asked: Asked, message: OpenMessage) -> Ring
     ensures { λ joined. ⌜ queue (now (places .exit)) joined
-        ≡ closedQueue format message (queue (now (places .entry)) ring) ⌝ }
+        ≡ closedQueue asked message (queue (now (places .entry)) ring) ⌝ }
 {
-    let joins = format.block & message.queued;
+    let joins = asked.block & message.queued;
     if joins {
         return ring.join(places, message.block);
     }
@@ -109,12 +109,12 @@ impl Core {
     }
 
     // The sound end's reply: status, then words sent.
-    pub fn reply(self, format: Format, message: OpenMessage) -> Reply
-        ensures { λ reply. ⌜ reply ≡ replyOf format self message ⌝ }
+    pub fn reply(self, asked: Asked, message: OpenMessage) -> Reply
+        ensures { λ reply. ⌜ reply ≡ replyOf asked self message ⌝ }
     {
         let given = self.replies(message);
-        let sends = unless_busy(format, message, format.sends);
-        let last = format.last;
+        let sends = unless_busy(asked, message, asked.sends);
+        let last = asked.last;
         if !given {
             return Reply::Silent;
         }
@@ -130,7 +130,7 @@ impl Core {
         Reply::Words {
             status: self.status,
             block: message.block,
-            count: format.sends,
+            count: asked.sends,
         }
     }
 
@@ -146,12 +146,12 @@ impl Core {
     }
 
     // The data words stored, or held by the reply given.
-    fn end_words(self, format: Format, message: OpenMessage) -> u16
-        ensures { λ words. ⌜ words ≡ endWords format self message ⌝ }
+    fn end_words(self, asked: Asked, message: OpenMessage) -> u16
+        ensures { λ words. ⌜ words ≡ endWords asked self message ⌝ }
     {
         let given = self.replies(message);
-        let moved = moved_words(format, given, message.taken);
-        unless_busy(format, message, moved)
+        let moved = moved_words(asked, given, message.taken);
+        unless_busy(asked, message, moved)
     }
 
     // A fault closes the open message silently and sets message error.
@@ -161,19 +161,19 @@ impl Core {
         ring: Ring,
         places: &mut [u16; 256],
         ram: &mut [u16],
-        format: Format,
+        asked: Asked,
         time: u32,
         message: OpenMessage,
     ) -> Held
         ensures { λ held. ⌜ card (held .core)
             (queue (now (places .exit)) (held .ring)) (now (ram .exit))
-            ≡ faulted format code time message
+            ≡ faulted asked code time message
             (card self (queue (now (places .entry)) ring) (now (ram .entry))) ⌝ }
     {
-        let words = unless_busy(format, message, message.taken);
+        let words = unless_busy(asked, message, message.taken);
         let state = state_of(code, words, message);
-        close_ram(ram, format, state, time, message);
-        let joined = close_queue(ring, places, format, message);
+        close_ram(ram, asked, state, time, message);
+        let joined = close_queue(ring, places, asked, message);
         let core = self.with_status(status::with_error(self.status));
         Held {
             core: core.with_message(Message::Idle),
@@ -187,20 +187,20 @@ impl Core {
         ring: Ring,
         places: &mut [u16; 256],
         ram: &mut [u16],
-        format: Format,
+        asked: Asked,
         time: u32,
         message: OpenMessage,
     ) -> Held
         ensures { λ held. ⌜ card (held .core)
             (queue (now (places .exit)) (held .ring)) (now (ram .exit))
-            ≡ ended format time message
+            ≡ ended asked time message
             (card self (queue (now (places .entry)) ring) (now (ram .entry))) ⌝ }
     {
-        let words = self.end_words(format, message);
+        let words = self.end_words(asked, message);
         let state = state_of(0, words, message);
-        close_ram(ram, format, state, time, message);
-        let joined = close_queue(ring, places, format, message);
-        let core = self.switch(format.switch, message.line);
+        close_ram(ram, asked, state, time, message);
+        let joined = close_queue(ring, places, asked, message);
+        let core = self.switch(asked.switch, message.line);
         Held {
             core: core.with_message(Message::Idle),
             ring: joined,
@@ -215,13 +215,13 @@ fn is_shut(shut: Shut, line: bool) -> bool
 }
 
 // What takes words has stored them; what sends has sent them where a reply was given.
-fn moved_words(format: Format, given: bool, taken: u16) -> u16
+fn moved_words(asked: Asked, given: bool, taken: u16) -> u16
     ensures { λ words. ⌜ words
-        ≡ cond (eqb (format .takes) 0) (cond given (format .sends) 0) taken ⌝ }
+        ≡ cond (eqb (asked .takes) 0) (cond given (asked .sends) 0) taken ⌝ }
 {
-    if format.takes == 0 {
+    if asked.takes == 0 {
         if given {
-            return format.sends;
+            return asked.sends;
         }
         return 0;
     }

@@ -13,13 +13,11 @@ use crate::state::Core;
 use crate::state::Heard;
 use crate::state::Held;
 use crate::state::Reply;
-use bus::kind;
 use bus::word::Word;
 use card::memory;
 use card::place::Block;
 use card::place::Cell;
-use message::format;
-use message::format::Format;
+use message::asked::Asked;
 use message::judge;
 use message::judge::SilenceAct;
 use message::judge::WordAct;
@@ -108,9 +106,8 @@ impl Core {
             }
             return WordAct::Ignore;
         };
-        let kind = kind::kind_of(message.command);
-        let format = format::format_by(kind, message.command);
-        judge::on_word(self.station, self.flags, format, message, word)
+        let asked = message.asks();
+        judge::on_word(self.station, self.flags, asked, message, word)
     }
 
     // What a word does to the open message.
@@ -149,9 +146,8 @@ impl Core {
                 self.go_on(ring, message, Stage::Data, second, taken)
             }
             WordDeed::Fault(code) => {
-                let kind = kind::kind_of(message.command);
-                let format = format::format_by(kind, message.command);
-                self.close_by_fault(code, ring, places, ram, format, word.time, message)
+                let asked = message.asks();
+                self.close_by_fault(code, ring, places, ram, asked, word.time, message)
             }
         }
     }
@@ -178,14 +174,14 @@ impl Core {
     }
 
     // Only a sound end is replied to.
-    fn reply_to(self, act: SilenceAct, format: Format, message: OpenMessage) -> Reply
-        ensures { λ reply. ⌜ reply ≡ replyTo act format message self ⌝ }
+    fn reply_to(self, act: SilenceAct, asked: Asked, message: OpenMessage) -> Reply
+        ensures { λ reply. ⌜ reply ≡ replyTo act asked message self ⌝ }
     {
         match act {
             SilenceAct::Ignore => Reply::Silent,
             SilenceAct::AwaitStatus => Reply::Silent,
             SilenceAct::Fault(_) => Reply::Silent,
-            SilenceAct::End => self.reply(format, message),
+            SilenceAct::End => self.reply(asked, message),
         }
     }
 
@@ -196,13 +192,13 @@ impl Core {
         ring: Ring,
         places: &mut [u16; 256],
         ram: &mut [u16],
-        format: Format,
+        asked: Asked,
         message: OpenMessage,
         time: u32,
     ) -> Held
         ensures { λ held. ⌜ card (held .core)
             (queue (now (places .exit)) (held .ring)) (now (ram .exit))
-            ≡ silenceDone act format message time
+            ≡ silenceDone act asked message time
             (card self (queue (now (places .entry)) ring) (now (ram .entry))) .card ⌝ }
     {
         match act {
@@ -215,9 +211,9 @@ impl Core {
                 self.go_on(ring, message, Stage::AwaitingStatus, second, message.taken)
             }
             SilenceAct::Fault(code) => {
-                self.close_by_fault(code, ring, places, ram, format, time, message)
+                self.close_by_fault(code, ring, places, ram, asked, time, message)
             }
-            SilenceAct::End => self.close_at_end(ring, places, ram, format, time, message),
+            SilenceAct::End => self.close_at_end(ring, places, ram, asked, time, message),
         }
     }
 
@@ -246,12 +242,11 @@ impl Core {
                 reply: Reply::Silent,
             };
         };
-        let kind = kind::kind_of(message.command);
-        let format = format::format_by(kind, message.command);
-        let act = judge::on_silence(format, message, line);
-        let reply = self.reply_to(act, format, message);
+        let asked = message.asks();
+        let act = judge::on_silence(asked, message, line);
+        let reply = self.reply_to(act, asked, message);
         Heard {
-            held: self.silence_done(act, ring, places, ram, format, message, time),
+            held: self.silence_done(act, ring, places, ram, asked, message, time),
             reply: reply,
         }
     }

@@ -11,35 +11,33 @@ ghost use Rattle.terminal.specs.Opening.{
   openedAt,
 };
 use crate::state::Core;
-use bus::kind;
-use bus::kind::Kind;
 use bus::status::Status;
 use bus::word::Word;
 use card::memory;
 use card::place::Block;
 use card::place::Cell;
 use card::table;
-use message::format;
-use message::format::Format;
+use message::asked;
+use message::asked::Asked;
 use message::state::Message;
 use message::state::OpenMessage;
 use message::state::Second;
 use message::state::Stage;
 
 // Busy: flag 1 or, with a block, the table word's bit 15.
-fn busy_at(format: Format, flags: u16, entry: u16) -> bool
-    ensures { λ busy. ⌜ busy ≡ busyAt format flags entry ⌝ }
+fn busy_at(asked: Asked, flags: u16, entry: u16) -> bool
+    ensures { λ busy. ⌜ busy ≡ busyAt asked flags entry ⌝ }
 {
     let marked = table::is_busy(entry);
-    (flags / 2 % 2 == 1) | (format.block & marked)
+    (flags / 2 % 2 == 1) | (asked.block & marked)
 }
 
 // A message without a block has number 0 in its place.
-fn block_at(format: Format, entry: u16) -> u16
-    ensures { λ block. ⌜ block ≡ cond (format .block) (blockOf entry) 0 ⌝ }
+fn block_at(asked: Asked, entry: u16) -> u16
+    ensures { λ block. ⌜ block ≡ cond (asked .block) (blockOf entry) 0 ⌝ }
 {
     let named = table::block_of(entry);
-    let has = format.block;
+    let has = asked.block;
     if has { named.0 } else { 0 }
 }
 
@@ -55,14 +53,13 @@ fn stage_at(illegal: bool) -> Stage
 }
 
 // The message that a word opens, with what the opening fixes.
-fn opened_message(kind: Kind, format: Format, entry: u16, word: Word, core: Core) -> OpenMessage
-    ensures { λ message. ⌜ message ≡ openedMessage kind format entry word core ⌝ }
+fn opened_message(asked: Asked, entry: u16, word: Word, core: Core) -> OpenMessage
+    ensures { λ message. ⌜ message ≡ openedMessage asked entry word core ⌝ }
 {
-    let block = block_at(format, entry);
-    let busy = busy_at(format, core.flags, entry);
+    let block = block_at(asked, entry);
+    let busy = busy_at(asked, core.flags, entry);
     let wanted = table::wants_queue(entry);
-    let illegal = kind.is_illegal();
-    let stage = stage_at(illegal);
+    let stage = stage_at(asked.illegal);
     let second = Second::Absent;
     OpenMessage {
         command: word.value,
@@ -71,7 +68,7 @@ fn opened_message(kind: Kind, format: Format, entry: u16, word: Word, core: Core
         home: core.table,
         moved: false,
         busy: busy,
-        queued: format.block & wanted,
+        queued: asked.block & wanted,
         opened: word.time,
         taken: 0,
         second: second,
@@ -80,17 +77,17 @@ fn opened_message(kind: Kind, format: Format, entry: u16, word: Word, core: Core
 }
 
 // A legal code 2 or 18 keeps the remembered status.
-fn opened_status(kind: Kind, format: Format, entry: u16, word: Word, core: Core) -> u16
-    ensures { λ status. ⌜ status ≡ openedStatus kind format entry word core ⌝ }
+fn opened_status(asked: Asked, entry: u16, word: Word, core: Core) -> u16
+    ensures { λ status. ⌜ status ≡ openedStatus asked entry word core ⌝ }
 {
-    let fresh = format.fresh;
+    let fresh = asked.fresh;
     if !fresh {
         return core.status;
     }
-    let busy = busy_at(format, core.flags, entry);
+    let busy = busy_at(asked, core.flags, entry);
     let status = Status::caught(
         core.station,
-        kind,
+        asked.illegal,
         word.value,
         core.flags,
         busy,
@@ -100,19 +97,19 @@ fn opened_status(kind: Kind, format: Format, entry: u16, word: Word, core: Core)
 }
 
 // A legal code 18 keeps the last command.
-fn opened_last(format: Format, last: u16, command: u16) -> u16
-    ensures { λ now. ⌜ now ≡ cond (format .last) last command ⌝ }
+fn opened_last(asked: Asked, last: u16, command: u16) -> u16
+    ensures { λ now. ⌜ now ≡ cond (asked .last) last command ⌝ }
 {
-    let keeps = format.last;
+    let keeps = asked.last;
     if keeps { last } else { command }
 }
 
-fn opened_core(kind: Kind, format: Format, entry: u16, word: Word, core: Core) -> Core
-    ensures { λ opened. ⌜ opened ≡ openedCore kind format entry word core ⌝ }
+fn opened_core(asked: Asked, entry: u16, word: Word, core: Core) -> Core
+    ensures { λ opened. ⌜ opened ≡ openedCore asked entry word core ⌝ }
 {
-    let message = opened_message(kind, format, entry, word, core);
-    let status = opened_status(kind, format, entry, word, core);
-    let last = opened_last(format, core.last, word.value);
+    let message = opened_message(asked, entry, word, core);
+    let status = opened_status(asked, entry, word, core);
+    let last = opened_last(asked, core.last, word.value);
     let shut = core.shut;
     let held = Message::Open(message);
     Core {
@@ -132,9 +129,8 @@ impl Core {
     pub fn open(self, ram: &[u16], word: Word) -> Core
         ensures { λ opened. ⌜ opened ≡ openedAt word self (now (ram .entry)) ⌝ }
     {
-        let kind = kind::kind_of(word.value);
-        let format = format::format_by(kind, word.value);
-        let entry = memory::read_cell(ram, Block(self.table), Cell(format.cell));
-        opened_core(kind, format, entry, word, self)
+        let asked = asked::asked_of(word.value);
+        let entry = memory::read_cell(ram, Block(self.table), Cell(asked.cell));
+        opened_core(asked, entry, word, self)
     }
 }

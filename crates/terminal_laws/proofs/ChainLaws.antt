@@ -11,11 +11,10 @@ use mathlib.Core.List.{List, [], _∷_, _++_}
 use Prim.Native.Nat.{ℕ, _≤_, _<_}
 use native.Mathlib.Omega.{arith}
 use lib.ListN.{length, getD}
-use Rattle.bus.specs.Kind.{kindOf}
 use Rattle.card.specs.Memory.{blockCells, wordAddress, cellAt, withService}
 use Rattle.card.specs.Time.{ticksOf}
 use Rattle.card.proofs.Frame.{service-keeps, link-moves}
-use Rattle.message.specs.declared.format.Format.{Format}
+use Rattle.message.specs.declared.asked.Asked.{Asked}
 use Rattle.message.specs.declared.judge.WordAct.{WordAct}
 use Rattle.message.specs.declared.judge.WordAct.the-variants.{
   Ignore,
@@ -31,7 +30,7 @@ use Rattle.message.specs.declared.state.OpenMessage.{OpenMessage}
 use Rattle.message.specs.declared.state.Message.{Message}
 use Rattle.message.specs.declared.state.Message.the-variants.{Idle, Open}
 use Rattle.bus.specs.declared.word.Word.{Word}
-use Rattle.message.specs.Format.{formatOf}
+use Rattle.message.specs.Asked.{askedOf, asks}
 use Rattle.message.specs.Words.{ownCommand}
 use Rattle.terminal.specs.State.{Card, withStatus, withMessage}
 use Rattle.terminal.specs.Opening.{openedMessage, openedCore, opening}
@@ -59,7 +58,7 @@ use Rattle.terminal_laws.specs.Chain.{
   OpenIn,
   open-in,
 }
-use Rattle.terminal_laws.proofs.OneBlock.Changes.{cell-in-table}
+use Rattle.message.proofs.AskedBounds.{cell-in-table}
 use Rattle.terminal_laws.proofs.StepFrame.{word-step, silence-step, step-writes-only}
 
 -- ---- a closing
@@ -68,11 +67,11 @@ use Rattle.terminal_laws.proofs.StepFrame.{word-step, silence-step, ste
 record ClosedRam (old : Card) (message : OpenMessage) (new : List ℕ) : Type 0 where
   state : ℕ
   time : ℕ
-  is : new ≡ closedRam (formatOf (message .command)) state time message (old .ram)
+  is : new ≡ closedRam (asks message) state time message (old .ram)
 
 module _ (old : Card) (message : OpenMessage) (is-open : old .core .message ≡ Open message) where
   closed-by : {new : List ℕ} (state time : ℕ)
-      → new ≡ closedRam (formatOf (message .command)) state time message (old .ram)
+      → new ≡ closedRam (asks message) state time message (old .ram)
       → ClosedRam old message new
   closed-by state time is = record { state = state; time = time; is = is }
 
@@ -94,12 +93,12 @@ module _ (old : Card) (message : OpenMessage) (is-open : old .core .message ≡ 
       (ap (λ (outcome : Outcome). outcome .card .ram)
       (silence-step old message is-open line time judged))
 
-module _ (format : Format) (state time : ℕ) (message : OpenMessage) (ram : List ℕ)
-    (has : format .block ≡ true) where
+module _ (asked : Asked) (state time : ℕ) (message : OpenMessage) (ram : List ℕ)
+    (has : asked .block ≡ true) where
   -- cells 58 to 61, then cell 63 into the table cell: the link is the one that stood there before
-  link-after-closing : message .moved ≡ false → format .cell < blockCells
-      → wordAddress (message .home) (format .cell) < length ram
-      → cellAt (closedRam format state time message ram) (message .home) (format .cell)
+  link-after-closing : message .moved ≡ false → asked .cell < blockCells
+      → wordAddress (message .home) (asked .cell) < length ram
+      → cellAt (closedRam asked state time message ram) (message .home) (asked .cell)
       ≡ cellAt ram (message .block) 63
   unfolding closedRam cellAt
   link-after-closing stays inside in-memory =
@@ -107,21 +106,21 @@ module _ (format : Format) (state time : ℕ) (message : OpenMessage) (ram : Lis
       let served = withService ram (message .block) state time ticks in
       let keeps = service-keeps (message .block) state time ticks in
       rw (has, stays)
-      (link-moves served (message .block) (message .home) (format .cell) inside
+      (link-moves served (message .block) (message .home) (asked .cell) inside
       (omega (arith, keeps .same-length ram))
       ∙ keeps .same-else ram (wordAddress (message .block) 63) (λ written. omega arith))
 
   -- cells 58 to 61 alone
   entry-after-a-move : message .moved ≡ true
       → ((cell : ℕ) → 58 ≤ cell → cell ≤ 61
-      → wordAddress (message .home) (format .cell) ≢ wordAddress (message .block) cell)
-      → cellAt (closedRam format state time message ram) (message .home) (format .cell)
-      ≡ cellAt ram (message .home) (format .cell)
+      → wordAddress (message .home) (asked .cell) ≢ wordAddress (message .block) cell)
+      → cellAt (closedRam asked state time message ram) (message .home) (asked .cell)
+      ≡ cellAt ram (message .home) (asked .cell)
   unfolding closedRam cellAt
   entry-after-a-move moved apart =
       rw (has, moved)
       (service-keeps (message .block) state time (ticksOf (message .opened) time) .same-else ram
-      (wordAddress (message .home) (format .cell))
+      (wordAddress (message .home) (asked .cell))
       (λ written. apart (written .cell) (written .from) (written .to) (written .is)))
 
 -- the closing puts cell 63 of its block, whole, into the opening's table cell ..
@@ -131,11 +130,11 @@ pub chain-moves-on : (old : Card) (message : OpenMessage) (event : Event)
 chain-moves-on old message event asked =
     let closed = closed-ram old message (asked .with-block .is-open) (asked .closes) in
     ap
-    (λ (ram : List ℕ). cellAt ram (message .home) (formatOf (message .command) .cell))
+    (λ (ram : List ℕ). cellAt ram (message .home) (asks message .cell))
     (closed .is)
-    ∙ link-after-closing (formatOf (message .command)) (closed .state) (closed .time) message
+    ∙ link-after-closing (asks message) (closed .state) (closed .time) message
     (old .ram) (asked .with-block .has-block) (asked .table-stays)
-    (cell-in-table (kindOf (message .command)) (message .command)) (asked .in-memory)
+    (cell-in-table (message .command)) (asked .in-memory)
 
 -- .. unless the host has set the table block since: the table cell stays as it was, where it is
 -- none of the cells 58 to 61 of the message's block
@@ -147,48 +146,48 @@ pub moved-chain-stays : (old : Card) (message : OpenMessage) (event : Event)
 moved-chain-stays old message event with-block closes moved apart =
     let closed = closed-ram old message (with-block .is-open) closes in
     ap
-    (λ (ram : List ℕ). cellAt ram (message .home) (formatOf (message .command) .cell))
+    (λ (ram : List ℕ). cellAt ram (message .home) (asks message .cell))
     (closed .is)
-    ∙ entry-after-a-move (formatOf (message .command)) (closed .state) (closed .time) message
+    ∙ entry-after-a-move (asks message) (closed .state) (closed .time) message
     (old .ram) (with-block .has-block) moved apart
 
 -- ---- an opening
 
 -- a fault moves no table
-faulted-table : (format : Format) (code time : ℕ) (message : OpenMessage) (old : Card)
-    → faulted format code time message old .core .table ≡ old .core .table
+faulted-table : (asked : Asked) (code time : ℕ) (message : OpenMessage) (old : Card)
+    → faulted asked code time message old .core .table ≡ old .core .table
 unfolding faulted closing withMessage withStatus
-faulted-table format code time message old = refl
+faulted-table asked code time message old = refl
 
-module _ (heard : Word) (has : formatOf (heard .value) .block ≡ true) where
+module _ (heard : Word) (has : askedOf (heard .value) .block ≡ true) where
   -- it takes the block that the table cell names, and leaves memory as it is
   abbrev Takes : Card → ℕ → Type 0
   Takes new table =
-      OpenIn (cellAt (new .ram) table (formatOf (heard .value) .cell)) (new .core .message)
+      OpenIn (cellAt (new .ram) table (askedOf (heard .value) .cell)) (new .core .message)
 
   opening-takes : (old : Card) → Takes (opening heard old) (old .core .table)
   unfolding opening openedCore openedMessage withMessage
   opening-takes old =
-      let format = formatOf (heard .value) in
-      let entry = cellAt (old .ram) (old .core .table) (format .cell) in
-      open-in {message = openedMessage (kindOf (heard .value)) format entry heard (old .core)}
+      let asked = askedOf (heard .value) in
+      let entry = cellAt (old .ram) (old .core .table) (asked .cell) in
+      open-in {message = openedMessage asked entry heard (old .core)}
       (rw has)
 
-  word-done-takes : (act : WordAct) (format : Format) (message : OpenMessage) (old : Card)
-      → wordDone act format message heard old .opened ≢ none
-      → Takes (wordDone act format message heard old .card) (old .core .table)
+  word-done-takes : (act : WordAct) (asked : Asked) (message : OpenMessage) (old : Card)
+      → wordDone act asked message heard old .opened ≢ none
+      → Takes (wordDone act asked message heard old .card) (old .core .table)
   unfolding wordDone
-  word-done-takes Ignore format message old opened = absurd (opened refl)
-  word-done-takes (Store next) format message old opened = absurd (opened refl)
-  word-done-takes (Check next) format message old opened = absurd (opened refl)
-  word-done-takes (TakeSecond value) format message old opened = absurd (opened refl)
-  word-done-takes TakeStatus format message old opened = absurd (opened refl)
-  word-done-takes (Fault code) format message old opened = absurd (opened refl)
-  word-done-takes Supersede format message old opened =
-      subst (Takes (opening heard (faulted format 7 (heard .time) message old)))
-      (faulted-table format 7 (heard .time) message old)
-      (opening-takes (faulted format 7 (heard .time) message old))
-  word-done-takes Drop format message old opened = opening-takes old
+  word-done-takes Ignore asked message old opened = absurd (opened refl)
+  word-done-takes (Store next) asked message old opened = absurd (opened refl)
+  word-done-takes (Check next) asked message old opened = absurd (opened refl)
+  word-done-takes (TakeSecond value) asked message old opened = absurd (opened refl)
+  word-done-takes TakeStatus asked message old opened = absurd (opened refl)
+  word-done-takes (Fault code) asked message old opened = absurd (opened refl)
+  word-done-takes Supersede asked message old opened =
+      subst (Takes (opening heard (faulted asked 7 (heard .time) message old)))
+      (faulted-table asked 7 (heard .time) message old)
+      (opening-takes (faulted asked 7 (heard .time) message old))
+  word-done-takes Drop asked message old opened = opening-takes old
 
   idle-takes : (own : Bool) (old : Card)
       → cond own (opens heard old) (quietly old) .opened ≢ none
@@ -201,7 +200,7 @@ module _ (heard : Word) (has : formatOf (heard .value) .block ≡ true) where
   word-met-takes Idle old opened =
       idle-takes (ownCommand (old .core .station) (old .core .flags) heard) old opened
   word-met-takes (Open message) old opened =
-      word-done-takes _ (formatOf (message .command)) message old opened
+      word-done-takes _ (asks message) message old opened
 
 -- by the table cell of a message, as memory has it after the step
 opening-by : (message : OpenMessage) (heard : Word) (old : Card) → OpensBy message heard old

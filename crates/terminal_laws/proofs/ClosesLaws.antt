@@ -23,7 +23,7 @@ use Rattle.message.specs.declared.state.Message.{Message}
 use Rattle.message.specs.declared.state.Message.the-variants.{Open}
 use Rattle.bus.specs.declared.word.Word.{Word}
 use Rattle.message.specs.Message.{further, movedMessage}
-use Rattle.message.specs.Format.{formatOf}
+use Rattle.message.specs.Asked.{asks}
 use Rattle.terminal.specs.State.{Card, withTable, withFlags, withMessage}
 use Rattle.terminal.specs.Event.{
   Event,
@@ -88,7 +88,7 @@ same-further stage second taken message =
 module _ (old : Card) (message : OpenMessage) (is-open : old .core .message ≡ Open message) where
   after-word : (heard : Word) {act : WordAct} → wordJudged old message heard ≡ act
       → step (word heard) old .card .core .message
-      ≡ wordDone act (formatOf (message .command)) message heard old .card .core .message
+      ≡ wordDone act (asks message) message heard old .card .core .message
   after-word heard judged =
       ap (λ (outcome : Outcome). outcome .card .core .message)
       (word-step old message is-open heard judged)
@@ -110,7 +110,7 @@ module _ (old : Card) (message : OpenMessage) (is-open : old .core .message ≡ 
 
   after-silence : (line : Bool) (time : ℕ) {act : SilenceAct} → silenceJudged message line ≡ act
       → step (silence line time) old .card .core .message
-      ≡ silenceDone act (formatOf (message .command)) message time old .card .core .message
+      ≡ silenceDone act (asks message) message time old .card .core .message
   after-silence line time judged =
       ap (λ (outcome : Outcome). outcome .card .core .message)
       (silence-step old message is-open line time judged)

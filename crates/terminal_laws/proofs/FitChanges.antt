@@ -5,19 +5,18 @@ use mathlib.Core.Path.{_≡_, refl}
 use mathlib.Core.Bool.{Bool, true, false, cond, _&&_}
 use mathlib.Core.List.{List}
 use Prim.Native.Nat.{ℕ, _≤_}
-use Rattle.bus.specs.Kind.{kindOf}
 use Rattle.card.specs.Memory.{cellAt}
 use Rattle.queue.specs.declared.Queue.{Queue}
 use Rattle.queue.specs.Queue.{withJoined, fitQueue}
 use Rattle.queue.proofs.FitLaws.{join-keeps-fit}
-use Rattle.message.specs.declared.format.Format.{Format}
+use Rattle.message.specs.declared.asked.Asked.{Asked}
 use Rattle.message.specs.declared.state.OpenMessage.{OpenMessage}
 use Rattle.message.specs.declared.state.Message.{Message}
 use Rattle.message.specs.declared.state.Message.the-variants.{Idle, Open}
 use Rattle.terminal.specs.declared.state.Core.{Core}
 use Rattle.bus.specs.declared.word.Word.{Word}
 use Rattle.terminal.specs.State.{Card, card, withStatus, withLast, withSwitches, withMessage}
-use Rattle.message.specs.Format.{formatOf}
+use Rattle.message.specs.Asked.{askedOf}
 use Rattle.terminal.specs.Opening.{openedMessage, openedCore, opening}
 use Rattle.terminal.specs.Closing.{closedQueue, closing, faulted, ended}
 use Rattle.message.specs.Fitness.{fitMessage}
@@ -63,9 +62,9 @@ pub fit-opening : (word : Word) (old : Card)
 unfolding opening openedCore withMessage withLast withStatus fitCore
 fit-opening word old to-us fit =
     let core = old .core in
-    let format = formatOf (word .value) in
-    let entry = cellAt (old .ram) (core .table) (format .cell) in
-    let message = openedMessage (kindOf (word .value)) format entry word core in
+    let asked = askedOf (word .value) in
+    let entry = cellAt (old .ram) (core .table) (asked .cell) in
+    let message = openedMessage asked entry word core in
     let fit-message : FitOpen (core .station) message =
     opened-fits entry word core to-us (fit-core-parts core (fit .core) .table) in
     record {
@@ -82,27 +81,27 @@ fit-closed-queue true block queue on-card fit = join-keeps-fit block queue on-ca
 fit-closed-queue false block queue on-card fit = fit
 
 -- nothing is open any more
-fit-closing : (format : Format) (state time : ℕ) (message : OpenMessage) (old : Card)
-    → message .block ≤ 255 → FitCard old → FitCard (closing format state time message old)
+fit-closing : (asked : Asked) (state time : ℕ) (message : OpenMessage) (old : Card)
+    → message .block ≤ 255 → FitCard old → FitCard (closing asked state time message old)
 unfolding closing closedQueue
-fit-closing format state time message old on-card fit =
+fit-closing asked state time message old on-card fit =
     record {
       core = fit-with-message Idle (old .core) refl (fit .core);
       queue =
-          fit-closed-queue (format .block && message .queued) (message .block) (old .queue) on-card
+          fit-closed-queue (asked .block && message .queued) (message .block) (old .queue) on-card
           (fit .queue);
     }
 
 -- refusal 4 asks nothing of the remembered status ..
-pub fit-faulted : (format : Format) (code time : ℕ) (message : OpenMessage) (old : Card)
-    → message .block ≤ 255 → FitCard old → FitCard (faulted format code time message old)
+pub fit-faulted : (asked : Asked) (code time : ℕ) (message : OpenMessage) (old : Card)
+    → message .block ≤ 255 → FitCard old → FitCard (faulted asked code time message old)
 unfolding faulted withStatus fitCore
-fit-faulted format code time message old on-card fit =
-    fit-closing format _ time message _ on-card (record { core = fit .core; queue = fit .queue })
+fit-faulted asked code time message old on-card fit =
+    fit-closing asked _ time message _ on-card (record { core = fit .core; queue = fit .queue })
 
 -- .. nor of shut lines and inhibit
-pub fit-ended : (format : Format) (time : ℕ) (message : OpenMessage) (old : Card)
-    → message .block ≤ 255 → FitCard old → FitCard (ended format time message old)
+pub fit-ended : (asked : Asked) (time : ℕ) (message : OpenMessage) (old : Card)
+    → message .block ≤ 255 → FitCard old → FitCard (ended asked time message old)
 unfolding ended withSwitches fitCore
-fit-ended format time message old on-card fit =
-    fit-closing format _ time message _ on-card (record { core = fit .core; queue = fit .queue })
+fit-ended asked time message old on-card fit =
+    fit-closing asked _ time message _ on-card (record { core = fit .core; queue = fit .queue })

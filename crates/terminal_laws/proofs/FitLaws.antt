@@ -2,7 +2,7 @@
 -- every run, `fit-run`. Of the events, the host's table block and
 -- flags alone have to be in order. Assumes nothing.
 use mathlib.Core.List.{List, [], _∷_}
-use Prim.Native.Nat.{ℕ, _≤_}
+use Prim.Native.Nat.{_≤_}
 use Rattle.queue.proofs.FitLaws.{read-keeps-fit}
 use Rattle.terminal.specs.State.{Card, withTable, withFlags, withMessage}
 use Rattle.terminal.specs.Event.{

@@ -8,7 +8,6 @@ use native.Mathlib.Omega.{arith}
 use lib.Dec.{eqb, leb}
 use borrow.Author.Tests.{leb-false}
 use Rattle.rules.proofs.Cases.{both}
-use Rattle.bus.specs.Kind.{kindOf, isIllegal}
 use Rattle.card.specs.TableWord.{blockOf}
 use Rattle.message.specs.declared.state.Stage.the-variants.{
   Data,
@@ -23,7 +22,7 @@ use Rattle.message.specs.declared.state.Message.the-variants.{Idle, Open}
 use Rattle.terminal.specs.declared.state.Core.{Core}
 use Rattle.bus.specs.declared.word.Word.{Word}
 use Rattle.message.specs.Message.{further, movedMessage}
-use Rattle.message.specs.Format.{formatOf}
+use Rattle.message.specs.Asked.{askedOf, asks}
 use Rattle.terminal.specs.Opening.{openedMessage}
 use Rattle.message.specs.Words.{isSecond}
 use Rattle.message.specs.Fitness.{fitStage, fitOpen, fitMessage}
@@ -45,16 +44,16 @@ fit-first-stage false = refl
 pub opened-fits : (entry : ℕ) (word : Word) (core : Core)
     → addressed (core .station) (word .value) ≡ true → core .table ≤ 255
     → FitOpen (core .station)
-    (openedMessage (kindOf (word .value)) (formatOf (word .value)) entry word core)
+    (openedMessage (askedOf (word .value)) entry word core)
 unfolding openedMessage
 opened-fits entry word core to-us table =
     record {
       address = to-us;
-      block = fit-block (formatOf (word .value) .block) entry;
+      block = fit-block (askedOf (word .value) .block) entry;
       home = table;
       taken = omega arith;
       second = refl;
-      stage = fit-first-stage (isIllegal (kindOf (word .value)));
+      stage = fit-first-stage (askedOf (word .value) .illegal);
     }
 
 -- ---- the message further on
@@ -62,7 +61,7 @@ opened-fits entry word core to-us table =
 module _ (station : ℕ) (message : OpenMessage) (fit : FitOpen station message) where
   -- one more of the words that it wants
   pub fits-with-word : isLegal message ≡ true
-      → leb (formatOf (message .command) .takes) (message .taken) ≡ false
+      → leb (asks message .takes) (message .taken) ≡ false
       → FitOpen station (further Data (message .second) (message .taken + 1) message)
   unfolding further
   fits-with-word legal short =
@@ -71,14 +70,14 @@ module _ (station : ℕ) (message : OpenMessage) (fit : FitOpen station message)
         block = fit .block;
         home = fit .home;
         taken =
-            omega (arith, leb-false (formatOf (message .command) .takes) (message .taken) short);
+            omega (arith, leb-false (asks message .takes) (message .taken) short);
         second = fit .second;
         stage = legal;
       }
 
   -- a second command before any word of a data receive
   pub fits-with-second : (value : ℕ) → isLegal message ≡ true
-      → formatOf (message .command) .receive ≡ true → eqb (message .taken) 0 ≡ true
+      → asks message .receive ≡ true → eqb (message .taken) 0 ≡ true
       → isSecond station (message .command) value ≡ true
       → FitOpen station (further SecondCommand (Command value) (message .taken) message)
   unfolding further
@@ -89,7 +88,7 @@ module _ (station : ℕ) (message : OpenMessage) (fit : FitOpen station message)
         home = fit .home;
         taken = fit .taken;
         second =
-            both (formatOf (message .command) .receive) (isSecond station (message .command) value)
+            both (asks message .receive) (isSecond station (message .command) value)
             receive second;
         stage = rw (legal, none);
       }

@@ -7,14 +7,13 @@ use lib.Dec.{eqb, leb}
 use borrow.Author.Tests.{leb-true, le-leb}
 use Rattle.rules.proofs.Halves.{first-of-both, second-of-both}
 use Rattle.bus.specs.Command.{addressOf, isBroadcast}
-use Rattle.bus.specs.Kind.{kindOf, isIllegal}
 use Rattle.queue.specs.Queue.{fitQueue}
 use Rattle.message.specs.declared.state.Stage.{Stage}
 use Rattle.message.specs.declared.state.OpenMessage.{OpenMessage}
 use Rattle.message.specs.declared.state.Message.the-variants.{Open}
 use Rattle.terminal.specs.declared.state.Core.{Core}
 use Rattle.terminal.specs.State.{Card}
-use Rattle.message.specs.Format.{formatOf}
+use Rattle.message.specs.Asked.{asks}
 use Rattle.message.specs.Fitness.{fitSecond, fitStage, fitOpen, fitMessage}
 use Rattle.terminal.specs.Fitness.{fitCore, fitCard}
 
@@ -26,21 +25,21 @@ addressed station command = eqb (addressOf command) station || isBroadcast comma
 
 -- the command is legal
 abbrev pub isLegal : OpenMessage → Bool
-isLegal message = not (isIllegal (kindOf (message .command)))
+isLegal message = not (asks message .illegal)
 
 -- the message could have come to the stage
 abbrev pub InStage : Stage → OpenMessage → Type 0
 InStage stage message =
-    fitStage stage (isIllegal (kindOf (message .command))) (message .second) (message .taken) ≡ true
+    fitStage stage (asks message .illegal) (message .second) (message .taken) ≡ true
 
 -- what is asked of an open message
 pub record FitOpen (station : ℕ) (message : OpenMessage) : Type 0 where
   pub address : addressed station (message .command) ≡ true
   pub block : message .block ≤ 255
   pub home : message .home ≤ 255
-  pub taken : message .taken ≤ formatOf (message .command) .takes
+  pub taken : message .taken ≤ asks message .takes
   pub second : fitSecond (message .second) station (message .command)
-      (formatOf (message .command) .receive) ≡ true
+      (asks message .receive) ≡ true
   pub stage : InStage (message .stage) message
 
 -- the test taken apart ..
@@ -49,14 +48,14 @@ pub fit-open-parts : (station : ℕ) (message : OpenMessage)
 unfolding fitOpen
 fit-open-parts station message fit =
     let command = message .command in
-    let format = formatOf command in
+    let asked = asks message in
     let address = addressed station command in
     let block = leb (message .block) 255 in
     let home = leb (message .home) 255 in
-    let taken = leb (message .taken) (format .takes) in
-    let second = fitSecond (message .second) station command (format .receive) in
+    let taken = leb (message .taken) (asked .takes) in
+    let second = fitSecond (message .second) station command (asked .receive) in
     let stage =
-    fitStage (message .stage) (isIllegal (kindOf command)) (message .second) (message .taken) in
+    fitStage (message .stage) (asked .illegal) (message .second) (message .taken) in
     let to-second = first-of-both (address && block && home && taken && second) stage fit in
     let to-taken = first-of-both (address && block && home && taken) second to-second in
     let to-home = first-of-both (address && block && home) taken to-taken in
@@ -66,7 +65,7 @@ fit-open-parts station message fit =
       block = leb-true (message .block) 255 (second-of-both address block to-block);
       home = leb-true (message .home) 255 (second-of-both (address && block) home to-home);
       taken =
-          leb-true (message .taken) (format .takes)
+          leb-true (message .taken) (asked .takes)
           (second-of-both (address && block && home) taken to-taken);
       second = second-of-both (address && block && home && taken) second to-second;
       stage = second-of-both (address && block && home && taken && second) stage fit;
@@ -81,7 +80,7 @@ fit-open-whole {station} {message} parts =
       parts .address,
       le-leb (message .block) 255 (parts .block),
       le-leb (message .home) 255 (parts .home),
-      le-leb (message .taken) (formatOf (message .command) .takes) (parts .taken),
+      le-leb (message .taken) (asks message .takes) (parts .taken),
       parts .second,
     ) (parts .stage)
 

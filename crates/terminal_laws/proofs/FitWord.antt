@@ -33,7 +33,7 @@ use Rattle.message.specs.declared.state.Message.the-variants.{Idle, Open}
 use Rattle.bus.specs.declared.word.Word.{Word}
 use Rattle.terminal.specs.State.{Card, withStatus, withMessage}
 use Rattle.message.specs.Message.{further, hasSecond}
-use Rattle.message.specs.Format.{formatOf}
+use Rattle.message.specs.Asked.{asks}
 use Rattle.message.specs.Words.{ownCommand}
 use Rattle.message.specs.Words.{
   asksForData,
@@ -120,13 +120,13 @@ drop-is-addressed station command value dropping =
 module _ (station : ℕ) (message : OpenMessage) (word : Word) (fit : FitOpen station message) where
   -- rule 6 takes a second command as the first word of a data receive
   second-fits : isLegal message ≡ true
-      → (word .sync && formatOf (message .command) .receive && eqb (message .taken) 0
+      → (word .sync && asks message .receive && eqb (message .taken) 0
       && not (hasSecond (message .second))) ≡ true
       → isSecond station (message .command) (word .value) ≡ true
       → FitOpen station (further SecondCommand (Command (word .value)) (message .taken) message)
   second-fits legal first second =
       let sync = word .sync in
-      let receive = formatOf (message .command) .receive in
+      let receive = asks message .receive in
       let none = eqb (message .taken) 0 in
       let to-none =
       first-of-both (sync && receive && none) (not (hasSecond (message .second))) first in
@@ -136,7 +136,7 @@ module _ (station : ℕ) (message : OpenMessage) (word : Word) (fit : FitOpen st
 
   -- rules 1, 3, 5, 6, 7, 8: a word is taken only where one is wanted
   data-fits : isLegal message ≡ true
-      → FitAct station message word (inData station (formatOf (message .command)) message word)
+      → FitAct station message word (inData station (asks message) message word)
   unfolding inData
   data-fits legal =
       let one-more = fits-with-word station message fit legal in
@@ -147,7 +147,7 @@ module _ (station : ℕ) (message : OpenMessage) (word : Word) (fit : FitOpen st
   -- the rules of each stage
   stage-fits : (stage : Stage) → InStage stage message
       → FitAct station message word
-      (wordInStage stage station (formatOf (message .command)) message word)
+      (wordInStage stage station (asks message) message word)
   unfolding inSecondCommand inAwaitingStatus
   stage-fits Data reached = data-fits reached
   stage-fits SecondCommand reached = search acts depth 12
@@ -164,7 +164,7 @@ module _ (station : ℕ) (message : OpenMessage) (word : Word) (fit : FitOpen st
   -- superseding, the other line, and then the stage
   word-fits : (flags : ℕ)
       → FitAct station message word
-      (onWord station flags (formatOf (message .command)) message word)
+      (onWord station flags (asks message) message word)
   unfolding onWord
   word-fits flags =
       let in-stage = stage-fits (message .stage) (fit .stage) in
@@ -178,7 +178,7 @@ module _ (station : ℕ) (message : OpenMessage) (word : Word) (fit : FitOpen st
 fit-word-done : (act : WordAct) (message : OpenMessage) (word : Word) (old : Card)
     → FitOpen (old .core .station) message → FitCard old
     → FitAct (old .core .station) message word act
-    → FitCard (wordDone act (formatOf (message .command)) message word old .card)
+    → FitCard (wordDone act (asks message) message word old .card)
 unfolding wordDone faulted closing withMessage withStatus
 fit-word-done Ignore message word old parts fit ignores = fit
 fit-word-done (Store taken) message word old parts fit (stores next) =
@@ -190,11 +190,11 @@ fit-word-done (TakeSecond value) message word old parts fit (takes-second next) 
 fit-word-done TakeStatus message word old parts fit (takes-status next) =
     fit-going-on _ _ old next fit
 fit-word-done (Fault code) message word old parts fit faults =
-    fit-faulted (formatOf (message .command)) code (word .time) message old (parts .block) fit
+    fit-faulted (asks message) code (word .time) message old (parts .block) fit
 fit-word-done Supersede message word old parts fit (supersedes to-us) =
-    let format = formatOf (message .command) in
-    fit-opening word (faulted format 7 (word .time) message old) to-us
-    (fit-faulted format 7 (word .time) message old (parts .block) fit)
+    let asked = asks message in
+    fit-opening word (faulted asked 7 (word .time) message old) to-us
+    (fit-faulted asked 7 (word .time) message old (parts .block) fit)
 fit-word-done Drop message word old parts fit (drops to-us) = fit-opening word old to-us fit
 
 -- with nothing open, an own command opens

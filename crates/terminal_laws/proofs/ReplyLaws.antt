@@ -6,30 +6,16 @@ use mathlib.Core.Bool.{Bool, true, false, cond, not, _&&_}
 use mathlib.Core.List.{List, _∷_}
 use Prim.Native.Nat.{ℕ, _+_, _≤_, _<_}
 use native.Mathlib.Omega.{arith}
-use lib.Dec.{eqb, leb}
+use lib.Dec.{eqb}
 use lib.ListN.{length, take, drop, length-take, length-drop}
 use lib.Seq.{ext-getD, getD-take, getD-drop}
-use Rattle.bus.specs.declared.kind.Kind.{Kind}
-use Rattle.bus.specs.declared.kind.Kind.the-variants.{
-  Receive,
-  Transmit,
-  ModeStatus,
-  ModeLast,
-  ModeSwitch,
-  ModeSend,
-  ModeTake,
-  ModeReply,
-  Illegal,
-}
-use Rattle.bus.specs.Command.{modeCodeOf}
-use Rattle.bus.specs.Kind.{kindOf}
 use Rattle.card.specs.Memory.{wordAddress, cellAt}
 use Rattle.card.specs.Sent.{sentPart}
 use Rattle.message.specs.declared.judge.SilenceAct.{SilenceAct}
 use Rattle.message.specs.declared.judge.SilenceAct.the-variants.{Ignore, AwaitStatus, Fault, End}
 use Rattle.message.specs.declared.state.OpenMessage.{OpenMessage}
 use Rattle.message.specs.declared.state.Message.the-variants.{Open}
-use Rattle.message.specs.Format.{formatBy, formatOf}
+use Rattle.message.specs.Asked.{asks}
 use Rattle.terminal.specs.declared.state.Reply.{Reply}
 use Rattle.terminal.specs.declared.state.Reply.the-variants.{Silent, Status, Words, Last}
 use Rattle.terminal.specs.declared.state.Answer.{Answer}
@@ -43,7 +29,7 @@ use Rattle.terminal.specs.Machine.{step}
 use Rattle.terminal_laws.specs.Closes.{silenceJudged}
 use Rattle.terminal_laws.specs.Written.{MayWrite, service-cell, table-cell}
 use Rattle.terminal_laws.proofs.OneBlock.Answers.{sent-at-most}
-use Rattle.terminal_laws.proofs.OneBlock.Changes.{cell-in-table}
+use Rattle.message.proofs.AskedBounds.{sends-by-high-cell, cell-in-table}
 use Rattle.terminal_laws.proofs.StepFrame.{silence-step, step-writes-only}
 
 -- ---- the part that is sent
@@ -71,25 +57,6 @@ same-sent ram other block count long cells =
     (cells cell below)) in
     rw (long, part) refl
 
--- ---- whatever sends words of a block goes by a table cell from 32 on
-
-high-of-sends : (kind : Kind) (command : ℕ) → (formatBy kind command .sends ≡ 0 → ⊥)
-    → 32 ≤ formatBy kind command .cell
-unfolding formatBy
-high-of-sends Receive command sends = absurd (sends refl)
-high-of-sends Transmit command sends = omega arith
-high-of-sends ModeStatus command sends = absurd (sends refl)
-high-of-sends ModeLast command sends = absurd (sends refl)
-high-of-sends ModeSwitch command sends = absurd (sends refl)
-high-of-sends ModeSend command sends = go (eqb (modeCodeOf command) 16)
-  where
-    go : (code : Bool) → 32 ≤ cond code 32 63
-    go true = omega arith
-    go false = omega arith
-high-of-sends ModeTake command sends = absurd (sends refl)
-high-of-sends ModeReply command sends = absurd (sends refl)
-high-of-sends Illegal command sends = absurd (sends refl)
-
 -- answers, with what holds where one sends words
 data Sends (cell : ℕ) : Answer → Type 0 where
   silent : Sends cell (Replied Silent)
@@ -113,20 +80,20 @@ sends-some false sends some none =
 
 module _ (message : OpenMessage) (time : ℕ) (old : Card) where
   high-done : (act : SilenceAct)
-      → Sends (formatOf (message .command) .cell)
-      (silenceDone act (formatOf (message .command)) message time old .answer)
+      → Sends (asks message .cell)
+      (silenceDone act (asks message) message time old .answer)
   unfolding silenceDone replyOf
   high-done Ignore = silent
   high-done AwaitStatus = silent
   high-done (Fault code) = silent
   high-done End =
-      let format = formatOf (message .command) in
+      let asked = asks message in
       sends-if (not (replies (old .core) message)) (λ shut. silent) (λ given.
-      sends-if (format .last) (λ last. a-last) (λ other.
-      sends-if (eqb (unlessBusy format message (format .sends)) 0) (λ alone. a-status) (λ some.
+      sends-if (asked .last) (λ last. a-last) (λ other.
+      sends-if (eqb (unlessBusy asked message (asked .sends)) 0) (λ alone. a-status) (λ some.
       some-words
-      (high-of-sends (kindOf (message .command)) (message .command)
-      (sends-some (message .busy && format .yields) (format .sends) some)))))
+      (sends-by-high-cell (message .command)
+      (sends-some (message .busy && asked .yields) (asked .sends) some)))))
 
 high-cell : {cell status block count : ℕ} → Sends cell (Replied (Words status block count))
     → 32 ≤ cell
@@ -137,10 +104,10 @@ high-cell (some-words high) = high
 module _ (line : Bool) (time : ℕ) (old : Card) (status block count : ℕ)
     (replied : step (silence line time) old .answer ≡ Replied (Words status block count)) where
   high-table-cell : (message : OpenMessage) → old .core .message ≡ Open message
-      → 32 ≤ formatOf (message .command) .cell
+      → 32 ≤ asks message .cell
   high-table-cell message is-open =
       high-cell
-      (subst (Sends (formatOf (message .command) .cell))
+      (subst (Sends (asks message .cell))
       (sym (ap (λ (outcome : Outcome). outcome .answer)
       (silence-step old message is-open line time refl))
       ∙ replied)
@@ -157,7 +124,7 @@ module _ (line : Bool) (time : ℕ) (old : Card) (status block count : ℕ)
         arith,
         sent-at-most (silence line time) old status block count replied,
         high-table-cell message (with-block .is-open),
-        cell-in-table (kindOf (message .command)) (message .command),
+        cell-in-table (message .command),
       )
 
 -- the cells that are sent hold what they held

@@ -18,7 +18,7 @@ use Rattle.card.proofs.Frame.{
   link-keeps,
   words-keep,
 }
-use Rattle.message.specs.declared.format.Format.{Format}
+use Rattle.message.specs.declared.asked.Asked.{Asked}
 use Rattle.message.specs.declared.judge.WordAct.{WordAct}
 use Rattle.message.specs.declared.judge.WordAct.the-variants.{
   Ignore,
@@ -36,7 +36,7 @@ use Rattle.message.specs.declared.state.OpenMessage.{OpenMessage}
 use Rattle.message.specs.declared.state.Message.{Message}
 use Rattle.message.specs.declared.state.Message.the-variants.{Idle, Open}
 use Rattle.bus.specs.declared.word.Word.{Word}
-use Rattle.message.specs.Format.{formatOf}
+use Rattle.message.specs.Asked.{asks}
 use Rattle.message.specs.Words.{ownCommand}
 use Rattle.terminal.specs.State.{Card}
 use Rattle.terminal.specs.Opening.{opening}
@@ -85,20 +85,20 @@ use Rattle.terminal_laws.proofs.StoreLaws.{stores-with-block, stores-da
 
 module _ (old : Card) (message : OpenMessage) (is-open : old .core .message ≡ Open message) where
   pub word-step : (heard : Word) {act : WordAct} → wordJudged old message heard ≡ act
-      → step (word heard) old ≡ wordDone act (formatOf (message .command)) message heard old
+      → step (word heard) old ≡ wordDone act (asks message) message heard old
   unfolding step wordStep
   word-step heard judged =
       ap (λ (there : Message). wordMet there heard old) is-open
-      ∙ ap (λ (act : WordAct). wordDone act (formatOf (message .command)) message heard old) judged
+      ∙ ap (λ (act : WordAct). wordDone act (asks message) message heard old) judged
 
   pub silence-step : (line : Bool) (time : ℕ) {act : SilenceAct}
       → silenceJudged message line ≡ act
       → step (silence line time) old
-      ≡ silenceDone act (formatOf (message .command)) message time old
+      ≡ silenceDone act (asks message) message time old
   unfolding step silenceStep
   silence-step line time judged =
       ap (λ (there : Message). silenceMet there line time old) is-open
-      ∙ ap (λ (act : SilenceAct). silenceDone act (formatOf (message .command)) message time old)
+      ∙ ap (λ (act : SilenceAct). silenceDone act (asks message) message time old)
       judged
 
 -- ---- changes of memory
@@ -113,14 +113,14 @@ module _ {Written : ℕ → Type 0} where
       record { same-length = keeps .same-length ram; same-else = keeps .same-else ram }
 
   -- a closing: cells 58 to 61, and the table cell unless the host has set the table block since
-  written-closing : (format : Format) (state time : ℕ) (message : OpenMessage) (ram : List ℕ)
-      → (format .block ≡ true → (cell address : ℕ) → 58 ≤ cell → cell ≤ 61
+  written-closing : (asked : Asked) (state time : ℕ) (message : OpenMessage) (ram : List ℕ)
+      → (asked .block ≡ true → (cell address : ℕ) → 58 ≤ cell → cell ≤ 61
       → address ≡ wordAddress (message .block) cell → Written address)
-      → (format .block ≡ true → message .moved ≡ false → (address : ℕ)
-      → address ≡ wordAddress (message .home) (format .cell) → Written address)
-      → WritesOnly Written ram (closedRam format state time message ram)
+      → (asked .block ≡ true → message .moved ≡ false → (address : ℕ)
+      → address ≡ wordAddress (message .home) (asked .cell) → Written address)
+      → WritesOnly Written ram (closedRam asked state time message ram)
   unfolding closedRam
-  written-closing format state time message ram = go (format .block) (message .moved)
+  written-closing asked state time message ram = go (asked .block) (message .moved)
     where
       block : ℕ
       block = message .block
@@ -141,10 +141,10 @@ module _ {Written : ℕ → Type 0} where
           → (has ≡ true → (cell address : ℕ) → 58 ≤ cell → cell ≤ 61
           → address ≡ wordAddress block cell → Written address)
           → (has ≡ true → moved ≡ false → (address : ℕ)
-          → address ≡ wordAddress (message .home) (format .cell) → Written address)
+          → address ≡ wordAddress (message .home) (asked .cell) → Written address)
           → WritesOnly Written ram
           (cond has
-          (linked moved block (message .home) (format .cell)
+          (linked moved block (message .home) (asked .cell)
           (withService ram block state time ticks))
           ram)
       go false moved may may-link = nothing-written ram
@@ -152,21 +152,21 @@ module _ {Written : ℕ → Type 0} where
       go true false may may-link =
           written-by
           (keeps-then (service (may refl))
-          (keeps-to-more (may-link refl refl) (link-keeps block (message .home) (format .cell))))
+          (keeps-to-more (may-link refl refl) (link-keeps block (message .home) (asked .cell))))
           ram
 
 -- ---- one event
 
 module _ (old : Card) (message : OpenMessage) (is-open : old .core .message ≡ Open message) where
-  abbrev with-block : formatOf (message .command) .block ≡ true → OpenWithBlock old message
+  abbrev with-block : asks message .block ≡ true → OpenWithBlock old message
   with-block has = record { is-open = is-open; has-block = has }
 
   -- whatever closes the message
   closed-writes : {event : Event} (state time : ℕ) → Closes old message event
       → WritesOnly (MayWrite old event) (old .ram)
-      (closedRam (formatOf (message .command)) state time message (old .ram))
+      (closedRam (asks message) state time message (old .ram))
   closed-writes state time closes =
-      written-closing (formatOf (message .command)) state time message (old .ram)
+      written-closing (asks message) state time message (old .ram)
       (λ has cell address from to is. service-cell (with-block has) closes from to is)
       (λ has stays address is. table-cell (with-block has) closes stays is)
 
@@ -180,7 +180,7 @@ module _ (old : Card) (message : OpenMessage) (is-open : old .core .message ≡ 
 
   word-done-writes : (act : WordAct) (heard : Word) → wordJudged old message heard ≡ act
       → WritesOnly (MayWrite old (word heard)) (old .ram)
-      (wordDone act (formatOf (message .command)) message heard old .card .ram)
+      (wordDone act (asks message) message heard old .card .ram)
   unfolding wordDone faulted closing opening
   word-done-writes Ignore heard judged = nothing-written (old .ram)
   word-done-writes (Store next) heard judged =
@@ -198,7 +198,7 @@ module _ (old : Card) (message : OpenMessage) (is-open : old .core .message ≡ 
   silence-done-writes : (act : SilenceAct) (line : Bool) (time : ℕ)
       → silenceJudged message line ≡ act
       → WritesOnly (MayWrite old (silence line time)) (old .ram)
-      (silenceDone act (formatOf (message .command)) message time old .card .ram)
+      (silenceDone act (asks message) message time old .card .ram)
   unfolding silenceDone faulted ended closing
   silence-done-writes silence-acts.Ignore line time judged = nothing-written (old .ram)
   silence-done-writes silence-acts.AwaitStatus line time judged = nothing-written (old .ram)

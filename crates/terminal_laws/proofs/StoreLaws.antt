@@ -3,24 +3,11 @@
 -- rules. Assumes nothing.
 use mathlib.Core.Path.{_≡_, refl, subst}
 use mathlib.Core.Bool.{Bool, true, false, cond, _&&_}
-use Prim.Native.Nat.{ℕ, _≤_, _<_}
+use Prim.Native.Nat.{ℕ, _<_}
 use native.Mathlib.Omega.{arith}
 use lib.Dec.{leb}
 use borrow.Author.Tests.{leb-false}
-use Rattle.bus.specs.declared.kind.Kind.{Kind}
-use Rattle.bus.specs.declared.kind.Kind.the-variants.{
-  Receive,
-  Transmit,
-  ModeStatus,
-  ModeLast,
-  ModeSwitch,
-  ModeSend,
-  ModeTake,
-  ModeReply,
-  Illegal,
-}
-use Rattle.bus.specs.Kind.{kindOf}
-use Rattle.message.specs.declared.format.Format.{Format}
+use Rattle.message.specs.declared.asked.Asked.{Asked}
 use Rattle.message.specs.declared.judge.WordAct.{WordAct}
 use Rattle.message.specs.declared.judge.WordAct.the-variants.{
   Ignore,
@@ -41,30 +28,30 @@ use Rattle.message.specs.declared.state.Stage.the-variants.{
 }
 use Rattle.message.specs.declared.state.OpenMessage.{OpenMessage}
 use Rattle.bus.specs.declared.word.Word.{Word}
-use Rattle.message.specs.Format.{formatBy, formatOf}
+use Rattle.message.specs.Asked.{asks}
 use Rattle.message.specs.Words.{inData, inSecondCommand, inAwaitingStatus, wordInStage, onWord}
 use Rattle.terminal.specs.State.{Card}
 use Rattle.terminal_laws.specs.Closes.{wordJudged}
 use Rattle.terminal_laws.specs.Written.{Stores}
-use Rattle.terminal_laws.proofs.OneBlock.Answers.{words-at-most}
+use Rattle.message.proofs.AskedBounds.{takes-at-most, takes-with-block}
 
 -- ---- the tests of rules 1 to 8
 
 -- acts, with what holds where one stores
-data Told (format : Format) (message : OpenMessage) : WordAct → Type 0 where
-  ignores : Told format message Ignore
-  stores : {next : ℕ} → leb (format .takes) (message .taken) ≡ false
-      → (message .busy && format .yields) ≡ false → Told format message (Store next)
-  checks : {next : ℕ} → Told format message (Check next)
-  takes-second : {value : ℕ} → Told format message (TakeSecond value)
-  takes-status : Told format message TakeStatus
-  faults : {code : ℕ} → Told format message (Fault code)
-  supersedes : Told format message Supersede
-  drops : Told format message Drop
+data Told (asked : Asked) (message : OpenMessage) : WordAct → Type 0 where
+  ignores : Told asked message Ignore
+  stores : {next : ℕ} → leb (asked .takes) (message .taken) ≡ false
+      → (message .busy && asked .yields) ≡ false → Told asked message (Store next)
+  checks : {next : ℕ} → Told asked message (Check next)
+  takes-second : {value : ℕ} → Told asked message (TakeSecond value)
+  takes-status : Told asked message TakeStatus
+  faults : {code : ℕ} → Told asked message (Fault code)
+  supersedes : Told asked message Supersede
+  drops : Told asked message Drop
 
-told-if : {format : Format} {message : OpenMessage} {test : Bool} {act other : WordAct}
-    → (test ≡ true → Told format message act) → (test ≡ false → Told format message other)
-    → Told format message (cond test act other)
+told-if : {asked : Asked} {message : OpenMessage} {test : Bool} {act other : WordAct}
+    → (test ≡ true → Told asked message act) → (test ≡ false → Told asked message other)
+    → Told asked message (cond test act other)
 told-if {test = true} holds fails = holds refl
 told-if {test = false} holds fails = fails refl
 
@@ -79,9 +66,9 @@ ruleset telling = (
   told-if,
 )
 
-module _ (format : Format) (message : OpenMessage) (heard : Word) where
+module _ (asked : Asked) (message : OpenMessage) (heard : Word) where
   told-in-stage : (stage : Stage) (station : ℕ)
-      → Told format message (wordInStage stage station format message heard)
+      → Told asked message (wordInStage stage station asked message heard)
   unfolding inData inSecondCommand inAwaitingStatus
   told-in-stage Data station = search (telling, stores) depth 14
   told-in-stage SecondCommand station = search telling depth 12
@@ -89,67 +76,39 @@ module _ (format : Format) (message : OpenMessage) (heard : Word) where
   told-in-stage Skipping station = ignores
 
   told-word : (station flags : ℕ)
-      → Told format message (onWord station flags format message heard)
+      → Told asked message (onWord station flags asked message heard)
   unfolding onWord
   told-word station flags =
       let in-stage = told-in-stage (message .stage) station in
       search telling depth 12
 
--- ---- what takes words has a block, and takes 32 at the most
-
-takes-with-block : (kind : Kind) (command taken : ℕ) → taken < formatBy kind command .takes
-    → formatBy kind command .block ≡ true
-unfolding formatBy
-takes-with-block Receive command taken wanted = refl
-takes-with-block Transmit command taken wanted = refl
-takes-with-block ModeStatus command taken wanted = absurd (omega arith)
-takes-with-block ModeLast command taken wanted = absurd (omega arith)
-takes-with-block ModeSwitch command taken wanted = absurd (omega arith)
-takes-with-block ModeSend command taken wanted = refl
-takes-with-block ModeTake command taken wanted = refl
-takes-with-block ModeReply command taken wanted = refl
-takes-with-block Illegal command taken wanted = absurd (omega arith)
-
-takes-at-most : (kind : Kind) (command : ℕ) → formatBy kind command .takes ≤ 32
-unfolding formatBy
-takes-at-most Receive command = words-at-most command
-takes-at-most Transmit command = omega arith
-takes-at-most ModeStatus command = omega arith
-takes-at-most ModeLast command = omega arith
-takes-at-most ModeSwitch command = omega arith
-takes-at-most ModeSend command = omega arith
-takes-at-most ModeTake command = omega arith
-takes-at-most ModeReply command = omega arith
-takes-at-most Illegal command = omega arith
-
 -- ---- rule 8
 
 module _ (old : Card) (message : OpenMessage) (heard : Word) (next : ℕ)
     (judged : wordJudged old message heard ≡ Store next) where
-  abbrev format : Format
-  format = formatOf (message .command)
+  abbrev asked : Asked
+  asked = asks message
 
   -- a word is wanted still, and is not kept back
   record Wanted : Type 0 where
-    more : message .taken < format .takes
-    free : (message .busy && format .yields) ≡ false
+    more : message .taken < asked .takes
+    free : (message .busy && asked .yields) ≡ false
 
   wanted : Wanted
   wanted =
-      go (subst (Told format message) judged
-      (told-word format message heard (old .core .station) (old .core .flags)))
+      go (subst (Told asked message) judged
+      (told-word asked message heard (old .core .station) (old .core .flags)))
     where
-      go : Told format message (Store next) → Wanted
+      go : Told asked message (Store next) → Wanted
       go (stores some free) =
           record {
-            more = omega (arith, leb-false (format .takes) (message .taken) some);
+            more = omega (arith, leb-false (asked .takes) (message .taken) some);
             free = free;
           }
 
-  pub stores-with-block : format .block ≡ true
+  pub stores-with-block : asked .block ≡ true
   stores-with-block =
-      takes-with-block (kindOf (message .command)) (message .command) (message .taken)
-      (wanted .more)
+      takes-with-block (message .command) (message .taken) (wanted .more)
 
   pub stores-data : Stores old message heard
   stores-data =
@@ -160,7 +119,7 @@ module _ (old : Card) (message : OpenMessage) (heard : Word) (next : ℕ)
             omega (
               arith,
               wanted .more,
-              takes-at-most (kindOf (message .command)) (message .command),
+              takes-at-most (message .command),
             );
         not-busy-data = wanted .free;
       }

@@ -13,7 +13,7 @@ use Rattle.message.specs.declared.state.OpenMessage.{OpenMessage}
 use Rattle.message.specs.declared.state.Message.{Message}
 use Rattle.message.specs.declared.state.Message.the-variants.{Open}
 use Rattle.bus.specs.declared.word.Word.{Word}
-use Rattle.message.specs.Format.{formatOf}
+use Rattle.message.specs.Asked.{askedOf, asks}
 use Rattle.terminal.specs.State.{Card}
 use Rattle.terminal.specs.Event.{Event, word, none}
 use Rattle.terminal.specs.Machine.{step, run}
@@ -26,7 +26,7 @@ linkOf message old = cellAt (old .ram) (message .block) 63
 
 -- what stands in its table cell
 abbrev pub tableWordOf : OpenMessage → Card → ℕ
-tableWordOf message old = cellAt (old .ram) (message .home) (formatOf (message .command) .cell)
+tableWordOf message old = cellAt (old .ram) (message .home) (asks message .cell)
 
 -- what is asked: the event closes a message that has a block, the host has not set the table block
 -- since its opening, and memory has the table cell
@@ -36,12 +36,12 @@ pub record ChainCloses (old : Card) (message : OpenMessage) (event : Event) : Ty
   pub table-stays : message .moved ≡ false
   pub in-memory : tableAddress message < length (old .ram)
 
--- a command opens by the same table cell: a message opens, its format has that cell, and the table
+-- a command opens by the same table cell: a message opens, its asked has that cell, and the table
 -- is the block that it was
 pub record OpensBy (message : OpenMessage) (heard : Word) (old : Card) : Type 0 where
   pub opens : step (word heard) old .opened ≢ none
-  pub has-block : formatOf (heard .value) .block ≡ true
-  pub same-cell : formatOf (heard .value) .cell ≡ formatOf (message .command) .cell
+  pub has-block : askedOf (heard .value) .block ≡ true
+  pub same-cell : askedOf (heard .value) .cell ≡ asks message .cell
   pub same-table : old .core .table ≡ message .home
 
 -- none of these events may write the address

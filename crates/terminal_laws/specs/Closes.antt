@@ -10,7 +10,7 @@ use Rattle.message.specs.declared.judge.SilenceAct.the-variants as silence-acts
 use Rattle.message.specs.declared.state.OpenMessage.{OpenMessage}
 use Rattle.message.specs.declared.state.Message.the-variants.{Open}
 use Rattle.bus.specs.declared.word.Word.{Word}
-use Rattle.message.specs.Format.{formatOf}
+use Rattle.message.specs.Asked.{asks}
 use Rattle.message.specs.Words.{onWord}
 use Rattle.message.specs.Silence.{onSilence}
 use Rattle.terminal.specs.State.{Card}
@@ -20,15 +20,15 @@ use Rattle.terminal.specs.Machine.{step}
 -- the message is open on the card, and has a block
 pub record OpenWithBlock (old : Card) (message : OpenMessage) : Type 0 where
   pub is-open : old .core .message ≡ Open message
-  pub has-block : formatOf (message .command) .block ≡ true
+  pub has-block : asks message .block ≡ true
 
 -- what a word is to the message, and what a silence is
 abbrev pub wordJudged : Card → OpenMessage → Word → WordAct
 wordJudged old message heard =
-    onWord (old .core .station) (old .core .flags) (formatOf (message .command)) message heard
+    onWord (old .core .station) (old .core .flags) (asks message) message heard
 
 abbrev pub silenceJudged : OpenMessage → Bool → SilenceAct
-silenceJudged message line = onSilence (formatOf (message .command)) message line
+silenceJudged message line = onSilence (asks message) message line
 
 -- a word closes the message by a fault, or supersedes it; a silence closes it by a fault, or as its
 -- sound end. A broadcast message that is dropped does not close

@@ -10,7 +10,7 @@ use Rattle.card.specs.Memory.{blockCells, wordAddress}
 use Rattle.message.specs.declared.judge.WordAct.the-variants.{Store}
 use Rattle.message.specs.declared.state.OpenMessage.{OpenMessage}
 use Rattle.bus.specs.declared.word.Word.{Word}
-use Rattle.message.specs.Format.{formatOf}
+use Rattle.message.specs.Asked.{asks}
 use Rattle.terminal.specs.State.{Card}
 use Rattle.terminal.specs.Event.{
   Event,
@@ -25,14 +25,14 @@ use Rattle.terminal_laws.specs.Closes.{OpenWithBlock, wordJudged, Closes
 
 -- the address of a message's table cell: in the table block of its opening
 abbrev pub tableAddress : OpenMessage → ℕ
-tableAddress message = wordAddress (message .home) (formatOf (message .command) .cell)
+tableAddress message = wordAddress (message .home) (asks message .cell)
 
 -- rule 8 stores the word in the next cell, which is a data cell; under busy data nothing is stored
 pub record Stores (old : Card) (message : OpenMessage) (heard : Word) : Type 0 where
   pub next : ℕ
   pub by-rule-8 : wordJudged old message heard ≡ Store next
   pub data-cell : message .taken < 32
-  pub not-busy-data : (message .busy && formatOf (message .command) .yields) ≡ false
+  pub not-busy-data : (message .busy && asks message .yields) ≡ false
 
 -- what an event may write: a message without a block writes nothing, nor does an opening, a queue
 -- read, a setting of the table block or of the flags

@@ -8,9 +8,7 @@ use native.Mathlib.Omega.{arith}
 use lib.ListN.{length}
 use borrow.Author.Tests.{not-true, not-false}
 use Rattle.card.specs.Memory.{withCell}
-use Rattle.bus.specs.declared.kind.Kind.{Kind}
-use Rattle.bus.specs.Kind.{kindOf}
-use Rattle.message.specs.declared.format.Format.{Format}
+use Rattle.message.specs.declared.asked.Asked.{Asked}
 use Rattle.message.specs.declared.state.Stage.the-variants.{
   Data,
   SecondCommand,
@@ -20,7 +18,7 @@ use Rattle.message.specs.declared.state.Stage.the-variants.{
 use Rattle.message.specs.declared.state.OpenMessage.{OpenMessage}
 use Rattle.message.specs.declared.state.Message.the-variants.{Open}
 use Rattle.message.specs.Message.{further}
-use Rattle.message.specs.Format.{formatBy}
+use Rattle.message.specs.Asked.{asks}
 use Rattle.terminal.specs.declared.state.Core.{Core}
 use Rattle.terminal.specs.State.{withMessage}
 use Rattle.recording.specs.declared.Found.{Found}
@@ -105,12 +103,11 @@ module _ (able : Bool) (message : OpenMessage) where
         → 0 ≡ wantedBy able message
     wanted-busy in-data busy = rw (not-false able is-able, in-data, busy)
 
-    pub wanted-data : (kind : Kind) (format : Format)
+    pub wanted-data : (asked : Asked)
         → message .stage ≡ Data → message .busy ≡ false
-        → kind ≡ kindOf (message .command) → format ≡ formatBy kind (message .command)
-        → format .takes ≡ wantedBy able message
-    wanted-data kind format in-data not-busy is-kind is =
-        rw (not-false able is-able, in-data, not-busy, is, is-kind)
+        → asked ≡ asks message
+        → asked .takes ≡ wantedBy able message
+    wanted-data asked in-data not-busy is = rw (not-false able is-able, in-data, not-busy, is)
 
     pub wanted-second : message .stage ≡ SecondCommand → 0 ≡ wantedBy able message
     wanted-second is = rw (not-false able is-able, is)

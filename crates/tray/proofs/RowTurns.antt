@@ -3,25 +3,11 @@
 use mathlib.Core.Path.{_≡_, refl, sym, ap, subst, _∙_}
 use mathlib.Core.Bool.{Bool, true, false, cond, _&&_}
 use mathlib.Core.List.{List}
-use Prim.Native.Nat.{ℕ, zero, suc, _+_, _-_, _%_, _≤_, _<_}
+use Prim.Native.Nat.{ℕ, zero, suc, _+_, _-_, _≤_, _<_}
 use native.Mathlib.Omega.{arith}
-use lib.Dec.{eqb, leb, ltb}
+use lib.Dec.{leb, ltb}
 use lib.ListN.{length}
 use borrow.Author.Tests.{leb-true, ltb-true}
-use Rattle.bus.specs.declared.kind.Kind.{Kind}
-use Rattle.bus.specs.declared.kind.Kind.the-variants.{
-  Receive,
-  Transmit,
-  ModeStatus,
-  ModeLast,
-  ModeSwitch,
-  ModeSend,
-  ModeTake,
-  ModeReply,
-  Illegal,
-}
-use Rattle.bus.specs.Command.{wordsOf}
-use Rattle.bus.specs.Kind.{kindOf}
 use Rattle.message.specs.declared.state.Stage.{Stage}
 use Rattle.message.specs.declared.state.Stage.the-variants.{
   Data,
@@ -33,7 +19,8 @@ use Rattle.message.specs.declared.state.OpenMessage.{OpenMessage}
 use Rattle.message.specs.declared.state.Message.{Message}
 use Rattle.message.specs.declared.state.Message.the-variants.{Open}
 use Rattle.message.specs.Message.{further}
-use Rattle.message.specs.Format.{formatBy, formatOf}
+use Rattle.message.specs.Asked.{asks}
+use Rattle.message.proofs.AskedBounds.{takes-at-most}
 use Rattle.terminal.specs.State.{withMessage}
 use Rattle.recording.specs.declared.Found.{Found}
 use Rattle.recording.specs.declared.Found.the-variants.{Value, Nothing}
@@ -84,29 +71,11 @@ row-grows window marks block (suc fuel) now =
           at-most = omega (arith, rest .at-most);
         }
 
-words-few : (command : ℕ) → wordsOf command ≤ mostWords
-words-few command = go (eqb (command % 32) 0) where
-  go : (none : Bool) → cond none 32 (command % 32) ≤ mostWords
-  go true = omega arith
-  go false = omega arith
-
-takes-few : (kind : Kind) (command : ℕ) → formatBy kind command .takes ≤ mostWords
-unfolding formatBy
-takes-few Receive command = words-few command
-takes-few Transmit command = omega arith
-takes-few ModeStatus command = omega arith
-takes-few ModeLast command = omega arith
-takes-few ModeSwitch command = omega arith
-takes-few ModeSend command = omega arith
-takes-few ModeTake command = omega arith
-takes-few ModeReply command = omega arith
-takes-few Illegal command = omega arith
-
 wanted-few : (stage : Stage) (message : OpenMessage) → wantedIn stage message ≤ mostWords
 wanted-few Data message = go (message .busy) where
-  go : (busy : Bool) → cond busy 0 (formatOf (message .command) .takes) ≤ mostWords
+  go : (busy : Bool) → cond busy 0 (asks message .takes) ≤ mostWords
   go true = omega arith
-  go false = takes-few (kindOf (message .command)) (message .command)
+  go false = takes-at-most (message .command)
 wanted-few SecondCommand message = omega arith
 wanted-few AwaitingStatus message = omega arith
 wanted-few Skipping message = omega arith
@@ -273,7 +242,7 @@ module _ (old : Ran) (message : OpenMessage) (window ram ram′ : List ℕ)
           zero-less = omega arith
 
       some-words : Able (old .run .begun) room most → message .stage ≡ Data
-          → message .busy ≡ false → wanted ≡ formatOf (message .command) .takes → LeadsOn
+          → message .busy ≡ false → wanted ≡ asks message .takes → LeadsOn
       some-words able in-data not-busy is-takes =
           let led =
           row-led old message places out window last (able .is-begun) is-going

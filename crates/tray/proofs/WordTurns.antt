@@ -14,7 +14,7 @@ use Rattle.message.specs.declared.state.OpenMessage.{OpenMessage}
 use Rattle.message.specs.declared.state.Message.the-variants.{Open}
 use Rattle.bus.specs.declared.word.Word.{Word}
 use Rattle.message.specs.Message.{further}
-use Rattle.message.specs.Format.{formatOf}
+use Rattle.message.specs.Asked.{asks}
 use Rattle.message.specs.Words.{ownCommand, inData, onWord}
 use Rattle.terminal.specs.State.{Card, card, withMessage}
 use Rattle.terminal.specs.Event.{quietly}
@@ -46,7 +46,7 @@ beq-same false = refl
 module _ (old : Card) (message : OpenMessage) (heard : Word)
     (is-open : old .core .message ≡ Open message)
     (in-data : message .stage ≡ Data) (not-busy : message .busy ≡ false)
-    (wanted : message .taken < formatOf (message .command) .takes)
+    (wanted : message .taken < asks message .takes)
     (of-data : heard .sync ≡ false) (sound : heard .sound ≡ true) (joined : heard .joined ≡ true)
     (same-line : heard .line ≡ message .line) where
   pub word-is-stored : wordStep heard old
@@ -65,7 +65,7 @@ module _ (old : Card) (message : OpenMessage) (heard : Word)
         same-line,
         beq-same (message .line),
         in-data,
-        lt-leb (formatOf (message .command) .takes) (message .taken) wanted,
+        lt-leb (asks message .takes) (message .taken) wanted,
         not-busy,
       )
 
@@ -101,7 +101,7 @@ module _ (ran : Ran) (message : OpenMessage) (places out window : List ℕ) (las
   marks = marksOn (message .line)
 
   abbrev most-words : ℕ
-  most-words = formatOf (message .command) .takes
+  most-words = asks message .takes
 
   pub word-is-turn : (now : Stored) (value next : ℕ) → now .row .taken < most-words
       → wordFound window (now .row .at) marks ≡ Value value next

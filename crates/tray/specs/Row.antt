@@ -17,7 +17,7 @@ use Rattle.message.specs.declared.state.Stage.the-variants.{
 use Rattle.message.specs.declared.state.OpenMessage.{OpenMessage}
 use Rattle.message.specs.declared.state.Message.the-variants.{Open}
 use Rattle.message.specs.Message.{further}
-use Rattle.message.specs.Format.{formatOf}
+use Rattle.message.specs.Asked.{asks}
 use Rattle.terminal.specs.State.{withMessage}
 use Rattle.recording.specs.declared.Found.{Found}
 use Rattle.recording.specs.declared.Found.the-variants.{Value, Nothing}
@@ -70,7 +70,7 @@ marksOn line = cond line 13 12
 
 -- how many words a message takes and stores, as far as it is in its data
 abbrev pub wantedIn : Stage → OpenMessage → ℕ
-wantedIn Data message = cond (message .busy) 0 (formatOf (message .command) .takes)
+wantedIn Data message = cond (message .busy) 0 (asks message .takes)
 wantedIn SecondCommand message = 0
 wantedIn AwaitingStatus message = 0
 wantedIn Skipping message = 0

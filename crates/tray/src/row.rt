@@ -12,12 +12,10 @@ ghost use Rattle.tray.specs.Row.{
 };
 use crate::Ran;
 use crate::Run;
-use bus::kind;
 use card::memory;
 use card::place::Block;
 use card::place::Cell;
 use lines;
-use message::format;
 use message::state::Message;
 use message::state::OpenMessage;
 use message::state::Stage;
@@ -87,15 +85,14 @@ fn wanted_by(able: bool, message: OpenMessage) -> u16
     if !able {
         return 0;
     }
-    let kind = kind::kind_of(message.command);
-    let format = format::format_by(kind, message.command);
+    let asked = message.asks();
     let stage = message.stage;
     match stage {
         Stage::Data => {
             if message.busy {
                 return 0;
             }
-            format.takes
+            asked.takes
         }
         Stage::SecondCommand => 0,
         Stage::AwaitingStatus => 0,

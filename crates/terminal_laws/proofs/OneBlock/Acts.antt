@@ -5,7 +5,7 @@ use mathlib.Core.Logic.{_≢_}
 use mathlib.Core.Bool.{Bool, true, false, cond, not, Bool·beq, or-true}
 use Prim.Native.Nat.{ℕ}
 use native.Mathlib.Omega.{arith}
-use Rattle.message.specs.declared.format.Format.{Format}
+use Rattle.message.specs.declared.asked.Asked.{Asked}
 use Rattle.message.specs.declared.judge.WordAct.{WordAct}
 use Rattle.message.specs.declared.judge.WordAct.the-variants.{
   Ignore,
@@ -27,7 +27,7 @@ use Rattle.message.specs.declared.state.OpenMessage.{OpenMessage}
 use Rattle.message.specs.declared.state.Message.{Message}
 use Rattle.message.specs.declared.state.Message.the-variants.{Idle, Open}
 use Rattle.bus.specs.declared.word.Word.{Word}
-use Rattle.message.specs.Format.{formatOf}
+use Rattle.message.specs.Asked.{asks}
 use Rattle.message.specs.Words.{
   ownCommand,
   inData,
@@ -44,9 +44,9 @@ use Rattle.terminal.specs.Machine.{step}
 -- ---- which words open
 
 -- an opening makes the remembered status anew or keeps it, and is never nothing
-pub opens-something : (format : Format) → openedBy format ≡ none → ⊥
+pub opens-something : (asked : Asked) → openedBy asked ≡ none → ⊥
 unfolding openedBy
-opens-something format = go (format .fresh)
+opens-something asked = go (asked .fresh)
   where
     go : (fresh : Bool) → cond fresh afresh keeping ≡ none → ⊥
     go true is = let clash : _≡_ {A = ℕ} 0 1 = cc in omega arith
@@ -77,34 +77,34 @@ ruleset no-opening = (
   no-opening-if,
 )
 
-nothing-opened : {act : WordAct} (format : Format) (message : OpenMessage) (heard : Word)
-    (old : Card) → OpensNothing act → wordDone act format message heard old .opened ≡ none
+nothing-opened : {act : WordAct} (asked : Asked) (message : OpenMessage) (heard : Word)
+    (old : Card) → OpensNothing act → wordDone act asked message heard old .opened ≡ none
 unfolding wordDone
-nothing-opened format message heard old no-opening-ignore = refl
-nothing-opened format message heard old no-opening-store = refl
-nothing-opened format message heard old no-opening-check = refl
-nothing-opened format message heard old no-opening-second = refl
-nothing-opened format message heard old no-opening-status = refl
-nothing-opened format message heard old no-opening-fault = refl
+nothing-opened asked message heard old no-opening-ignore = refl
+nothing-opened asked message heard old no-opening-store = refl
+nothing-opened asked message heard old no-opening-check = refl
+nothing-opened asked message heard old no-opening-second = refl
+nothing-opened asked message heard old no-opening-status = refl
+nothing-opened asked message heard old no-opening-fault = refl
 
 module _ (heard : Word) (unjoined : heard .joined ≡ false) where
-  no-opening-stage : (stage : Stage) (station : ℕ) (format : Format) (message : OpenMessage)
-      → OpensNothing (wordInStage stage station format message heard)
+  no-opening-stage : (stage : Stage) (station : ℕ) (asked : Asked) (message : OpenMessage)
+      → OpensNothing (wordInStage stage station asked message heard)
   unfolding inData inSecondCommand inAwaitingStatus
-  no-opening-stage Data station format message = rw unjoined (search no-opening depth 6)
-  no-opening-stage SecondCommand station format message = search no-opening depth 6
-  no-opening-stage AwaitingStatus station format message = search no-opening depth 6
-  no-opening-stage Skipping station format message = no-opening-ignore
+  no-opening-stage Data station asked message = rw unjoined (search no-opening depth 6)
+  no-opening-stage SecondCommand station asked message = search no-opening depth 6
+  no-opening-stage AwaitingStatus station asked message = search no-opening depth 6
+  no-opening-stage Skipping station asked message = no-opening-ignore
 
-  no-opening-word : (station flags : ℕ) (format : Format) (message : OpenMessage)
+  no-opening-word : (station flags : ℕ) (asked : Asked) (message : OpenMessage)
       → ownCommand station flags heard ≡ false
-      → OpensNothing (onWord station flags format message heard)
+      → OpensNothing (onWord station flags asked message heard)
   unfolding onWord
-  no-opening-word station flags format message other =
+  no-opening-word station flags asked message other =
       rw other
       (no-opening-if {test = not (Bool·beq (heard .line) (message .line))}
       (λ elsewhere. no-opening-ignore)
-      (λ here. no-opening-stage (message .stage) station format message))
+      (λ here. no-opening-stage (message .stage) station asked message))
 
   -- an unjoined word that opens a message is an own command ..
   opening-is-own : (message : Message) (old : Card)
@@ -120,8 +120,8 @@ module _ (heard : Word) (unjoined : heard .joined ≡ false) where
       go false is Idle opening = absurd (opening (rw is refl))
       go false is (Open message) opening =
           absurd (opening
-          (nothing-opened (formatOf (message .command)) message heard old
-          (no-opening-word (old .core .station) (old .core .flags) (formatOf (message .command))
+          (nothing-opened (asks message) message heard old
+          (no-opening-word (old .core .station) (old .core .flags) (asks message)
           message is)))
 
   pub unjoined-is-own : (old : Card) → step (word heard) old .opened ≢ none
@@ -130,9 +130,9 @@ module _ (heard : Word) (unjoined : heard .joined ≡ false) where
   unjoined-is-own old opening = opening-is-own (old .core .message) old opening
 
 -- .. and an own command that is unjoined supersedes
-pub unjoined-supersedes : (station flags : ℕ) (format : Format) (message : OpenMessage)
+pub unjoined-supersedes : (station flags : ℕ) (asked : Asked) (message : OpenMessage)
     (heard : Word) → ownCommand station flags heard ≡ true → heard .joined ≡ false
-    → onWord station flags format message heard ≡ Supersede
+    → onWord station flags asked message heard ≡ Supersede
 unfolding onWord
-unjoined-supersedes station flags format message heard own unjoined =
+unjoined-supersedes station flags asked message heard own unjoined =
     simp (own, unjoined, or-true)

@@ -2,22 +2,11 @@
 -- words sent. Assumes nothing.
 use mathlib.Core.Path.{_≡_, refl, sym, subst}
 use mathlib.Core.Bool.{Bool, true, false, cond, not, _&&_}
-use Prim.Native.Nat.{ℕ, _%_, _≤_}
+use Prim.Native.Nat.{ℕ, _≤_}
 use native.Mathlib.Omega.{arith}
 use lib.Dec.{eqb}
 use Rattle.bus.specs.declared.kind.Kind.{Kind}
-use Rattle.bus.specs.declared.kind.Kind.the-variants.{
-  Receive,
-  Transmit,
-  ModeStatus,
-  ModeLast,
-  ModeSwitch,
-  ModeSend,
-  ModeTake,
-  ModeReply,
-  Illegal,
-}
-use Rattle.bus.specs.Command.{wordsOf}
+use Rattle.bus.specs.declared.kind.Kind.the-variants.{ModeStatus, ModeLast}
 use Rattle.bus.specs.Kind.{kindOf}
 use Rattle.bus.specs.Status.{withoutError}
 use Rattle.message.specs.declared.judge.SilenceAct.{SilenceAct}
@@ -25,7 +14,8 @@ use Rattle.message.specs.declared.judge.SilenceAct.the-variants.{Ignore, AwaitS
 use Rattle.message.specs.declared.state.OpenMessage.{OpenMessage}
 use Rattle.message.specs.declared.state.Message.{Message}
 use Rattle.message.specs.declared.state.Message.the-variants.{Idle, Open}
-use Rattle.message.specs.Format.{formatBy, formatOf}
+use Rattle.message.specs.Asked.{askedBy, asks}
+use Rattle.message.proofs.AskedBounds.{sends-at-most}
 use Rattle.message.specs.Silence.{onSilence}
 use Rattle.terminal.specs.declared.state.Core.{Core}
 use Rattle.terminal.specs.declared.state.Reply.{Reply}
@@ -90,9 +80,9 @@ module _ (message : OpenMessage) (core : Core) (status : ℕ)
 
   asked-reply : (kind : Kind) → kindOf (message .command) ≡ kind → Asks kind
       → SameAnswer true (Open message)
-      (Replied (replyOf (formatBy kind (message .command)) core message))
-      (Replied (replyOf (formatBy kind (message .command)) (withStatus status core) message))
-  unfolding replyOf replies withStatus formatBy
+      (Replied (replyOf (askedBy kind (message .command)) core message))
+      (Replied (replyOf (askedBy kind (message .command)) (withStatus status core) message))
+  unfolding replyOf replies withStatus askedBy
   asked-reply ModeStatus is asks-status =
       status-reply (replies core message) (message .busy) is
   asked-reply ModeLast is asks-last = last-reply (replies core message) is
@@ -100,8 +90,8 @@ module _ (message : OpenMessage) (core : Core) (status : ℕ)
 pub same-reply : {before : Bool} (message : OpenMessage) (core : Core) (status : ℕ)
     → Statuses before (Open message) (core .status) status
     → SameAnswer before (Open message)
-    (Replied (replyOf (formatOf (message .command)) core message))
-    (Replied (replyOf (formatOf (message .command)) (withStatus status core) message))
+    (Replied (replyOf (asks message) core message))
+    (Replied (replyOf (asks message) (withStatus status core) message))
 unfolding replyOf replies withStatus
 same-reply message core status equal = same
 same-reply message core status (but-error (asking asks) but) =
@@ -122,43 +112,24 @@ at-most-if : (test : Bool) {reply other : Reply}
 at-most-if true first second = first
 at-most-if false first second = second
 
-pub words-at-most : (command : ℕ) → wordsOf command ≤ 32
-words-at-most command = go (eqb (command % 32) 0)
-  where
-    go : (none : Bool) → cond none 32 (command % 32) ≤ 32
-    go true = omega arith
-    go false = omega arith
-
-sends-at-most : (kind : Kind) (command : ℕ) → formatBy kind command .sends ≤ 32
-unfolding formatBy
-sends-at-most Receive command = omega arith
-sends-at-most Transmit command = words-at-most command
-sends-at-most ModeStatus command = omega arith
-sends-at-most ModeLast command = omega arith
-sends-at-most ModeSwitch command = omega arith
-sends-at-most ModeSend command = omega arith
-sends-at-most ModeTake command = omega arith
-sends-at-most ModeReply command = omega arith
-sends-at-most Illegal command = omega arith
-
 at-most-done : (act : SilenceAct) (message : OpenMessage) (time : ℕ) (old : Card)
-    → AtMost32 (silenceDone act (formatOf (message .command)) message time old .answer)
+    → AtMost32 (silenceDone act (asks message) message time old .answer)
 unfolding silenceDone replyOf
 at-most-done Ignore message time old = silent
 at-most-done AwaitStatus message time old = silent
 at-most-done (Fault code) message time old = silent
 at-most-done End message time old =
-    let format = formatOf (message .command) in
+    let asked = asks message in
     at-most-if (not (replies (old .core) message)) silent
-    (at-most-if (format .last) a-last
-    (at-most-if (eqb (unlessBusy format message (format .sends)) 0) a-status
-    (some-words (sends-at-most (kindOf (message .command)) (message .command)))))
+    (at-most-if (asked .last) a-last
+    (at-most-if (eqb (unlessBusy asked message (asked .sends)) 0) a-status
+    (some-words (sends-at-most (message .command)))))
 
 at-most-silence : (message : Message) (line : Bool) (time : ℕ) (old : Card)
     → AtMost32 (silenceMet message line time old .answer)
 at-most-silence Idle line time old = silent
 at-most-silence (Open message) line time old =
-    at-most-done (onSilence (formatOf (message .command)) message line) message time old
+    at-most-done (onSilence (asks message) message line) message time old
 
 at-most-answer : (event : Event) (old : Card) → AtMost32 (step event old .answer)
 unfolding step silenceStep queueReadStep hostWriteStep tableMoveStep flagsWriteStep

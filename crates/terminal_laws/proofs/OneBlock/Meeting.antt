@@ -15,7 +15,7 @@ use Rattle.message.specs.declared.state.OpenMessage.{OpenMessage}
 use Rattle.message.specs.declared.state.Message.the-variants.{Idle, Open}
 use Rattle.bus.specs.declared.word.Word.{Word}
 use Rattle.message.specs.Message.{further}
-use Rattle.message.specs.Format.{formatOf}
+use Rattle.message.specs.Asked.{asks}
 use Rattle.message.specs.Words.{ownCommand}
 use Rattle.terminal.specs.declared.state.Core.{Core}
 use Rattle.terminal.specs.State.{Card, withStatus, withMessage}
@@ -70,15 +70,15 @@ module _ (Spent : ℕ → Type 0) (start : Card) (message : OpenMessage) where
       let here : Card = onward start message stage second taken ram in
       let on : OpenMessage = further stage second taken message in
       record {
-        left = faulted (formatOf (message .command)) 7 (command .time) on here;
+        left = faulted (asks message) 7 (command .time) on here;
         span =
             span-faulted start message receives spent stage second taken ram agree 7
             (command .time);
         idle = refl;
         is =
-            ap (λ (act : WordAct). wordDone act (formatOf (message .command)) on command here)
+            ap (λ (act : WordAct). wordDone act (asks message) on command here)
             (unjoined-supersedes (start .core .station) (start .core .flags)
-            (formatOf (message .command)) on command own unjoined);
+            (asks message) on command own unjoined);
       }
   supersedes receives spent {here} command (is-gone status but agree) own unjoined =
       record {
@@ -120,14 +120,14 @@ module _ {Spent : ℕ → Type 0} {before : Bool} (start start′ : Card) (messa
         core =
             ap (λ (core : Core). withStatus status′ (withMessage Idle core)) (related .core);
         queue =
-            ap (λ (queue : Queue). closedQueue (formatOf (message .command)) message queue)
+            ap (λ (queue : Queue). closedQueue (asks message) message queue)
             (related .queue);
         statuses = but-error asking-none (but ∙ statuses ∙ sym but′);
         cells =
             agree-trans (agree-sym agree)
             (agree-trans
             (both-linked (message .moved) (message .block) (message .home)
-            (formatOf (message .command) .cell) (related .cells))
+            (asks message .cell) (related .cells))
             agree′);
       }
 

@@ -3,8 +3,6 @@
 use mathlib.Core.Path.{_≡_, refl}
 use mathlib.Core.Logic.{_≢_}
 use mathlib.Core.Bool.{Bool, true, false, cond}
-use Rattle.bus.specs.declared.kind.Kind.{Kind}
-use Rattle.bus.specs.Kind.{kindOf}
 use Rattle.message.specs.declared.judge.WordAct.{WordAct}
 use Rattle.message.specs.declared.judge.WordAct.the-variants.{
   Ignore,
@@ -20,8 +18,8 @@ use Rattle.message.specs.declared.state.OpenMessage.{OpenMessage}
 use Rattle.message.specs.declared.state.Message.{Message}
 use Rattle.message.specs.declared.state.Message.the-variants.{Idle, Open}
 use Rattle.bus.specs.declared.word.Word.{Word}
-use Rattle.message.specs.declared.format.Format.{Format}
-use Rattle.message.specs.Format.{formatBy, formatOf}
+use Rattle.message.specs.declared.asked.Asked.{Asked}
+use Rattle.message.specs.Asked.{askedOf, asks}
 use Rattle.card.specs.Memory.{cellAt}
 use Rattle.message.specs.Words.{ownCommand, onWord}
 use Rattle.terminal.specs.State.{Card}
@@ -36,8 +34,8 @@ pub record Opening (command : Word) (old : Card) : Type 0 where
   pub is : step (word command) old ≡ opens command left
 
 done-opens : (act : WordAct) (message : OpenMessage) (command : Word) (old : Card)
-    → wordDone act (formatOf (message .command)) message command old .opened ≢ none
-    → step (word command) old ≡ wordDone act (formatOf (message .command)) message command old
+    → wordDone act (asks message) message command old .opened ≢ none
+    → step (word command) old ≡ wordDone act (asks message) message command old
     → Opening command old
 unfolding wordDone
 done-opens Ignore message command old opening is = absurd (opening refl)
@@ -63,7 +61,7 @@ met-opens Idle command old opening is =
     own-opens (ownCommand (old .core .station) (old .core .flags) command) command old opening is
 met-opens (Open message) command old opening is =
     done-opens
-    (onWord (old .core .station) (old .core .flags) (formatOf (message .command)) message command)
+    (onWord (old .core .station) (old .core .flags) (asks message) message command)
     message command old opening is
 
 pub word-opens : (command : Word) (old : Card) → step (word command) old .opened ≢ none
@@ -74,7 +72,6 @@ word-opens command old opening = met-opens (old .core .message) command old open
 -- the message that a command opens
 abbrev pub openedAs : Word → Card → OpenMessage
 openedAs command old =
-    let kind : Kind = kindOf (command .value) in
-    let format : Format = formatBy kind (command .value) in
-    openedMessage kind format (cellAt (old .ram) (old .core .table) (format .cell)) command
+    let asked : Asked = askedOf (command .value) in
+    openedMessage asked (cellAt (old .ram) (old .core .table) (asked .cell)) command
     (old .core)

@@ -35,7 +35,7 @@ use Rattle.message.specs.declared.state.OpenMessage.{OpenMessage}
 use Rattle.message.specs.declared.state.Message.the-variants.{Idle, Open}
 use Rattle.bus.specs.declared.word.Word.{Word}
 use Rattle.message.specs.Message.{further}
-use Rattle.message.specs.Format.{formatBy, formatOf}
+use Rattle.message.specs.Asked.{askedBy, askedOf, asks}
 use Rattle.message.specs.Words.{ownCommand, onWord}
 use Rattle.message.specs.Silence.{onSilence}
 use Rattle.terminal.specs.declared.state.Core.{Core}
@@ -69,7 +69,7 @@ use Rattle.terminal_laws.proofs.OneBlock.Acts.{opens-something}
 -- memory after the closing, but for the cells that it costs
 abbrev pub linkedBy : OpenMessage → List ℕ → List ℕ
 linkedBy message ram =
-    linked (message .moved) (message .block) (message .home) (formatOf (message .command) .cell) ram
+    linked (message .moved) (message .block) (message .home) (asks message .cell) ram
 
 -- the message further on, and the message gone
 abbrev pub onward : Card → OpenMessage → Stage → Second → ℕ → List ℕ → Card
@@ -79,7 +79,7 @@ onward start message stage second taken ram =
 abbrev pub gone : Card → OpenMessage → ℕ → List ℕ → Card
 gone start message status ram =
     card (withStatus status (withMessage Idle (start .core)))
-    (closedQueue (formatOf (message .command)) message (start .queue))
+    (closedQueue (asks message) message (start .queue))
     ram
 
 -- the cards that the stretch can lead to from `start`, where the message is open
@@ -106,8 +106,8 @@ module _ {Spent : ℕ → Type 0} (start : Card) (message : OpenMessage)
 
     agree-closed : (state time : ℕ)
         → Agree Spent (linkedBy message (start .ram))
-        (closedRam (formatOf (message .command)) state time further-on ram)
-    unfolding closedRam further formatBy
+        (closedRam (asks message) state time further-on ram)
+    unfolding closedRam further askedBy
     agree-closed state time =
         rw receives
         (both-linked (message .moved) (message .block) (message .home) _
@@ -116,7 +116,7 @@ module _ {Spent : ℕ → Type 0} (start : Card) (message : OpenMessage)
 
     pub span-faulted : (code time : ℕ)
         → Span Spent start message
-        (faulted (formatOf (message .command)) code time further-on here)
+        (faulted (asks message) code time further-on here)
     unfolding faulted closing closedQueue further withStatus withMessage
     span-faulted code time =
         is-gone (withError (start .core .status))
@@ -124,12 +124,12 @@ module _ {Spent : ℕ → Type 0} (start : Card) (message : OpenMessage)
 
     -- a data receive sets no switch
     no-switch : (line : Bool) (core : Core)
-        → switched (formatOf (message .command) .switch) line core ≡ core
-    unfolding switchedShut switchedInhibit withSwitches formatBy
+        → switched (asks message .switch) line core ≡ core
+    unfolding switchedShut switchedInhibit withSwitches askedBy
     no-switch line core = rw receives refl
 
     span-ended : (time : ℕ)
-        → Span Spent start message (ended (formatOf (message .command)) time further-on here)
+        → Span Spent start message (ended (asks message) time further-on here)
     unfolding ended closing closedQueue further withStatus withMessage
     span-ended time =
         rw (no-switch (message .line) (here .core))
@@ -138,9 +138,9 @@ module _ {Spent : ℕ → Type 0} (start : Card) (message : OpenMessage)
     -- each act of a word that opens nothing
     span-word-done : (act : WordAct) (heard : Word)
         → ((next : ℕ) → act ≡ Store next → taken < 32)
-        → wordDone act (formatOf (message .command)) further-on heard here .opened ≡ none
+        → wordDone act (asks message) further-on heard here .opened ≡ none
         → Span Spent start message
-        (wordDone act (formatOf (message .command)) further-on heard here .card)
+        (wordDone act (asks message) further-on heard here .card)
     unfolding wordDone further withMessage
     span-word-done Ignore heard bounded quiet = is-open stage second taken agree
     span-word-done (Store next) heard bounded quiet =
@@ -153,14 +153,14 @@ module _ {Spent : ℕ → Type 0} (start : Card) (message : OpenMessage)
     span-word-done TakeStatus heard bounded quiet = is-open Data second taken agree
     span-word-done (Fault code) heard bounded quiet = span-faulted code (heard .time)
     span-word-done Supersede heard bounded quiet =
-        absurd (opens-something (formatOf (heard .value)) quiet)
+        absurd (opens-something (askedOf (heard .value)) quiet)
     span-word-done Drop heard bounded quiet =
-        absurd (opens-something (formatOf (heard .value)) quiet)
+        absurd (opens-something (askedOf (heard .value)) quiet)
 
     -- each act of a silence
     span-silence-done : (act : SilenceAct) (time : ℕ)
         → Span Spent start message
-        (silenceDone act (formatOf (message .command)) further-on time here .card)
+        (silenceDone act (asks message) further-on time here .card)
     unfolding silenceDone further withMessage
     span-silence-done IgnoreSilence time = is-open stage second taken agree
     span-silence-done AwaitStatus time = is-open AwaitingStatus second taken agree
@@ -173,7 +173,7 @@ module _ {Spent : ℕ → Type 0} (start : Card) (message : OpenMessage)
   span-own : (own : Bool) (heard : Word) (old : Card) → Span Spent start message old
       → cond own (opens heard old) (quietly old) .opened ≡ none
       → Span Spent start message (cond own (opens heard old) (quietly old) .card)
-  span-own true heard old span quiet = absurd (opens-something (formatOf (heard .value)) quiet)
+  span-own true heard old span quiet = absurd (opens-something (askedOf (heard .value)) quiet)
   span-own false heard old span quiet = span
 
   span-word : {old : Card} (heard : Word) → step (word heard) old .opened ≡ none
@@ -181,7 +181,7 @@ module _ {Spent : ℕ → Type 0} (start : Card) (message : OpenMessage)
   unfolding step wordStep further withMessage withStatus
   span-word heard quiet (is-open {ram} stage second taken agree) =
       span-word-done stage second taken ram agree
-      (onWord (start .core .station) (start .core .flags) (formatOf (message .command))
+      (onWord (start .core .station) (start .core .flags) (asks message)
       (further stage second taken message) heard)
       heard
       (λ next judged. stores-data start (further stage second taken message) heard next judged
@@ -197,7 +197,7 @@ module _ {Spent : ℕ → Type 0} (start : Card) (message : OpenMessage)
   unfolding step silenceStep further withMessage withStatus
   span-silence line time (is-open {ram} stage second taken agree) =
       span-silence-done stage second taken ram agree
-      (onSilence (formatOf (message .command)) (further stage second taken message) line) time
+      (onSilence (asks message) (further stage second taken message) line) time
   span-silence line time (is-gone status but agree) = is-gone status but agree
 
   pub span-run : {old : Card} (events : List Event) → Calm events old

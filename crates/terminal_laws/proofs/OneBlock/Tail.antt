@@ -32,7 +32,7 @@ use Rattle.message.specs.declared.state.Message.{Message}
 use Rattle.message.specs.declared.state.Message.the-variants.{Idle, Open}
 use Rattle.bus.specs.declared.word.Word.{Word}
 use Rattle.message.specs.Message.{further}
-use Rattle.message.specs.Format.{formatOf}
+use Rattle.message.specs.Asked.{asks}
 use Rattle.message.specs.Words.{ownCommand, onWord}
 use Rattle.message.specs.Silence.{onSilence}
 use Rattle.terminal.specs.declared.state.Core.{Core}
@@ -101,7 +101,7 @@ module _ {Spent : ℕ → Type 0} {before : Bool} (core : Core) (queue : Queue) 
       (goesOn (further stage second taken message) here)
       (goesOn (further stage second taken message) there)
   unfolding stillBefore withStatus withMessage
-  still-going-on stage second taken message asked =
+  still-going-on stage second taken message remembered =
       record {
         answer = same;
         related =
@@ -109,7 +109,7 @@ module _ {Spent : ℕ → Type 0} {before : Bool} (core : Core) (queue : Queue) 
               status = status;
               core = refl;
               queue = refl;
-              statuses = statuses-further stage second taken asked;
+              statuses = statuses-further stage second taken remembered;
               cells = agree;
             };
       }
@@ -118,11 +118,11 @@ module _ {Spent : ℕ → Type 0} {before : Bool} (core : Core) (queue : Queue) 
   still-word-done : (act : WordAct) (message : OpenMessage) (heard : Word)
       → Statuses before (Open message) (core .status) status
       → StillRelated Spent before (Open message)
-      (wordDone act (formatOf (message .command)) message heard here)
-      (wordDone act (formatOf (message .command)) message heard there)
+      (wordDone act (asks message) message heard here)
+      (wordDone act (asks message) message heard there)
   unfolding wordDone stillBefore withStatus withMessage faulted closing
-  still-word-done Ignore message heard asked = still-quietly (Open message)
-  still-word-done (Store taken) message heard asked =
+  still-word-done Ignore message heard remembered = still-quietly (Open message)
+  still-word-done (Store taken) message heard remembered =
       record {
         answer = same;
         related =
@@ -130,32 +130,32 @@ module _ {Spent : ℕ → Type 0} {before : Bool} (core : Core) (queue : Queue) 
               status = status;
               core = refl;
               queue = refl;
-              statuses = statuses-further _ _ _ asked;
+              statuses = statuses-further _ _ _ remembered;
               cells = both-cell _ _ _ agree;
             };
       }
-  still-word-done (Check taken) message heard asked =
-      still-going-on Data (message .second) taken message asked
-  still-word-done (TakeSecond value) message heard asked =
-      still-going-on SecondCommand (Command value) (message .taken) message asked
-  still-word-done TakeStatus message heard asked =
-      still-going-on Data (message .second) (message .taken) message asked
-  still-word-done (Fault code) message heard asked =
+  still-word-done (Check taken) message heard remembered =
+      still-going-on Data (message .second) taken message remembered
+  still-word-done (TakeSecond value) message heard remembered =
+      still-going-on SecondCommand (Command value) (message .taken) message remembered
+  still-word-done TakeStatus message heard remembered =
+      still-going-on Data (message .second) (message .taken) message remembered
+  still-word-done (Fault code) message heard remembered =
       record {
         answer = same;
         related =
-            related-faulted core queue status ram other agree (formatOf (message .command)) code
-            (heard .time) message asked;
+            related-faulted core queue status ram other agree (asks message) code
+            (heard .time) message remembered;
       }
-  still-word-done Supersede message heard asked =
+  still-word-done Supersede message heard remembered =
       record {
         answer = same;
         related =
             related-opening heard unspent
-            (related-faulted core queue status ram other agree (formatOf (message .command)) 7
-            (heard .time) message asked);
+            (related-faulted core queue status ram other agree (asks message) 7
+            (heard .time) message remembered);
       }
-  still-word-done Drop message heard asked =
+  still-word-done Drop message heard remembered =
       record { answer = same; related = related-opening heard unspent now }
 
   still-own : (own : Bool) (heard : Word)
@@ -168,44 +168,44 @@ module _ {Spent : ℕ → Type 0} {before : Bool} (core : Core) (queue : Queue) 
       → Statuses before message (core .status) status
       → StillRelated Spent before message (wordMet message heard here) (wordMet message heard there)
   unfolding withStatus
-  still-word Idle heard asked = still-own (ownCommand (core .station) (core .flags) heard) heard
-  still-word (Open message) heard asked =
+  still-word Idle heard remembered = still-own (ownCommand (core .station) (core .flags) heard) heard
+  still-word (Open message) heard remembered =
       still-word-done
-      (onWord (core .station) (core .flags) (formatOf (message .command)) message heard)
-      message heard asked
+      (onWord (core .station) (core .flags) (asks message) message heard)
+      message heard remembered
 
   -- each act of a silence
   still-silence-done : (act : SilenceAct) (message : OpenMessage) (time : ℕ)
       → Statuses before (Open message) (core .status) status
       → StillRelated Spent before (Open message)
-      (silenceDone act (formatOf (message .command)) message time here)
-      (silenceDone act (formatOf (message .command)) message time there)
+      (silenceDone act (asks message) message time here)
+      (silenceDone act (asks message) message time there)
   unfolding silenceDone stillBefore withStatus withMessage
-  still-silence-done IgnoreSilence message time asked = still-quietly (Open message)
-  still-silence-done AwaitStatus message time asked =
-      still-going-on AwaitingStatus (message .second) (message .taken) message asked
-  still-silence-done (FaultSilence code) message time asked =
+  still-silence-done IgnoreSilence message time remembered = still-quietly (Open message)
+  still-silence-done AwaitStatus message time remembered =
+      still-going-on AwaitingStatus (message .second) (message .taken) message remembered
+  still-silence-done (FaultSilence code) message time remembered =
       record {
         answer = same;
         related =
-            related-faulted core queue status ram other agree (formatOf (message .command)) code
-            time message asked;
+            related-faulted core queue status ram other agree (asks message) code
+            time message remembered;
       }
-  still-silence-done End message time asked =
+  still-silence-done End message time remembered =
       record {
-        answer = same-reply message core status asked;
+        answer = same-reply message core status remembered;
         related =
-            related-ended core queue status ram other agree (formatOf (message .command)) time
-            message asked;
+            related-ended core queue status ram other agree (asks message) time
+            message remembered;
       }
 
   still-silence : (message : Message) (line : Bool) (time : ℕ)
       → Statuses before message (core .status) status
       → StillRelated Spent before message (silenceMet message line time here)
       (silenceMet message line time there)
-  still-silence Idle line time asked = still-quietly Idle
-  still-silence (Open message) line time asked =
-      still-silence-done (onSilence (formatOf (message .command)) message line) message time asked
+  still-silence Idle line time remembered = still-quietly Idle
+  still-silence (Open message) line time remembered =
+      still-silence-done (onSilence (asks message) message line) message time remembered
 
   -- each event
   still-event : (event : Event)

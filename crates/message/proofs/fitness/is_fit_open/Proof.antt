@@ -11,14 +11,8 @@ address-requires c κs = search needs
 is-broadcast-requires : tie.Need-is-broadcast-requires
 is-broadcast-requires c κs = search needs
 
-kind-of-requires : tie.Need-kind-of-requires
-kind-of-requires c κs = search needs
-
-format-by-requires : tie.Need-format-by-requires
-format-by-requires c κs = search needs
-
-is-illegal-requires : tie.Need-is-illegal-requires
-is-illegal-requires c κs = search needs
+asks-requires : tie.Need-asks-requires
+asks-requires c κs = search needs
 
 is-fit-second-requires : tie.Need-is-fit-second-requires
 is-fit-second-requires c κs = search needs
@@ -36,9 +30,7 @@ is-fit-open-spec =
     (tie.spec
     address-requires
     is-broadcast-requires
-    kind-of-requires
-    format-by-requires
-    is-illegal-requires
+    asks-requires
     is-fit-second-requires
     is-fit-stage-requires
     returns)

@@ -14,9 +14,6 @@ busy-at-requires c κs = search needs
 wants-queue-requires : tie.Need-wants-queue-requires
 wants-queue-requires c κs = search needs
 
-is-illegal-requires : tie.Need-is-illegal-requires
-is-illegal-requires c κs = search needs
-
 stage-at-requires : tie.Need-stage-at-requires
 stage-at-requires c κs = search needs
 
@@ -30,6 +27,5 @@ opened-message-spec =
     block-at-requires
     busy-at-requires
     wants-queue-requires
-    is-illegal-requires
     stage-at-requires
     returns)

@@ -7,11 +7,8 @@ use Rattle.tray.proofs.row.wanted_by.Tie as tie
 returns : tie.Need-returns
 returns c = search (needs, wanting) depth 9
 
-kind-of-requires : tie.Need-kind-of-requires
-kind-of-requires c κs = search needs
-
-format-by-requires : tie.Need-format-by-requires
-format-by-requires c κs = search needs
+asks-requires : tie.Need-asks-requires
+asks-requires c κs = search needs
 
 enum-told : tie.Need-enum-told
 enum-told c = search needs
@@ -45,8 +42,7 @@ wanted-by-spec =
     tie.close
     (tie.spec
     returns
-    kind-of-requires
-    format-by-requires
+    asks-requires
     enum-told
     returns-2
     enum-told-2

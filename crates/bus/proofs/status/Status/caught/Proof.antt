@@ -5,9 +5,6 @@ use Rattle.bus.specs.Status.{caughtStatus}
 use Rattle.bus.proofs.status.Status.caught.Statement.{statement}
 use Rattle.bus.proofs.status.Status.caught.Tie as tie
 
-is-illegal-requires : tie.Need-is-illegal-requires
-is-illegal-requires c κs = search needs
-
 is-broadcast-requires : tie.Need-is-broadcast-requires
 is-broadcast-requires c κs = search needs
 
@@ -25,7 +22,6 @@ pub caught-spec : {M : Type 1} → statement M
 caught-spec =
     tie.close
     (tie.spec
-    is-illegal-requires
     is-broadcast-requires
     is-mode-requires
     mode-code-requires

@@ -20,11 +20,8 @@ returns c = search (needs, word-judging) depth 9
 returns-2 : tie.Need-returns-2
 returns-2 c = search (needs, word-judging) depth 9
 
-kind-of-requires : tie.Need-kind-of-requires
-kind-of-requires c κs = search needs
-
-format-by-requires : tie.Need-format-by-requires
-format-by-requires c κs = search needs
+asks-requires : tie.Need-asks-requires
+asks-requires c κs = search needs
 
 on-word-requires : tie.Need-on-word-requires
 on-word-requires c κs = search needs
@@ -41,7 +38,6 @@ act-on-spec =
     is-own-requires
     returns
     returns-2
-    kind-of-requires
-    format-by-requires
+    asks-requires
     on-word-requires
     returns-3)

@@ -1,15 +1,12 @@
--- `terminal::Core::open` meets its contract: kind, format and entry are what the calls ensure.
+-- `terminal::Core::open` meets its contract: what is asked and the entry are what the calls ensure.
 -- Assumes nothing.
 use borrow.Author.Needs.{needs}
 use Rattle.terminal.proofs.OpeningLaws.{opened-is}
 use Rattle.terminal.proofs.state.Core.open.Statement.{statement}
 use Rattle.terminal.proofs.state.Core.open.Tie as tie
 
-kind-of-requires : tie.Need-kind-of-requires
-kind-of-requires c κs = search needs
-
-format-by-requires : tie.Need-format-by-requires
-format-by-requires c κs = search needs
+asked-of-requires : tie.Need-asked-of-requires
+asked-of-requires c κs = search needs
 
 read-cell-requires : tie.Need-read-cell-requires
 read-cell-requires c κs = search needs
@@ -23,4 +20,4 @@ returns c = search (needs, opened-is)
 pub open-spec : {M : Type 1} → statement M
 open-spec =
     tie.close
-    (tie.spec kind-of-requires format-by-requires read-cell-requires opened-core-requires returns)
+    (tie.spec asked-of-requires read-cell-requires opened-core-requires returns)

@@ -14,11 +14,8 @@ enum-told c = search needs
 returns : tie.Need-returns
 returns c = search (needs, silence-meeting) depth 9
 
-kind-of-requires : tie.Need-kind-of-requires
-kind-of-requires c κs = search needs
-
-format-by-requires : tie.Need-format-by-requires
-format-by-requires c κs = search needs
+asks-requires : tie.Need-asks-requires
+asks-requires c κs = search needs
 
 on-silence-requires : tie.Need-on-silence-requires
 on-silence-requires c κs = search needs
@@ -42,8 +39,7 @@ silence-spec =
     enum-known-held
     enum-told
     returns
-    kind-of-requires
-    format-by-requires
+    asks-requires
     on-silence-requires
     reply-to-requires
     silence-done-requires

@@ -37,11 +37,8 @@ go-on-requires-2 c κs = search needs
 enum-known-deed-3 : tie.Need-enum-known-deed-3
 enum-known-deed-3 c = search needs
 
-kind-of-requires : tie.Need-kind-of-requires
-kind-of-requires c κs = search needs
-
-format-by-requires : tie.Need-format-by-requires
-format-by-requires c κs = search needs
+asks-requires : tie.Need-asks-requires
+asks-requires c κs = search needs
 
 close-by-fault-requires : tie.Need-close-by-fault-requires
 close-by-fault-requires c κs = search needs
@@ -79,8 +76,7 @@ word-done-spec =
     write-cell-requires
     go-on-requires-2
     enum-known-deed-3
-    kind-of-requires
-    format-by-requires
+    asks-requires
     close-by-fault-requires
     returns-2
     returns-3

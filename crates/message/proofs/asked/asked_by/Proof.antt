@@ -1,9 +1,9 @@
--- `message::format::format_by` meets its contract: a row for each kind. Assumes nothing.
+-- `message::asked::asked_by` meets its contract: a row for each kind. Assumes nothing.
 use borrow.Author.Needs.{needs}
-use Rattle.message.specs.Format.{formatBy}
-use Rattle.message.proofs.FormatLaws.{rows}
-use Rattle.message.proofs.format.format_by.Statement.{statement}
-use Rattle.message.proofs.format.format_by.Tie as tie
+use Rattle.message.specs.Asked.{askedBy}
+use Rattle.message.proofs.AskedLaws.{rows}
+use Rattle.message.proofs.asked.asked_by.Statement.{statement}
+use Rattle.message.proofs.asked.asked_by.Tie as tie
 
 subaddress-requires : tie.Need-subaddress-requires
 subaddress-requires c κs = search needs
@@ -81,34 +81,34 @@ returns-2 : tie.Need-returns-2
 returns-2 c = search (needs, rows)
 
 returns-3 : tie.Need-returns-3
-unfolding formatBy
+unfolding askedBy
 returns-3 c = cc
 
 returns-4 : tie.Need-returns-4
-unfolding formatBy
+unfolding askedBy
 returns-4 c = cc
 
 returns-5 : tie.Need-returns-5
-unfolding formatBy
+unfolding askedBy
 returns-5 c = cc
 
 returns-6 : tie.Need-returns-6
 returns-6 c = search (needs, rows)
 
 returns-7 : tie.Need-returns-7
-unfolding formatBy
+unfolding askedBy
 returns-7 c = cc
 
 returns-8 : tie.Need-returns-8
-unfolding formatBy
+unfolding askedBy
 returns-8 c = cc
 
 returns-9 : tie.Need-returns-9
-unfolding formatBy
+unfolding askedBy
 returns-9 c = cc
 
-pub format-by-spec : {M : Type 1} → statement M
-format-by-spec =
+pub asked-by-spec : {M : Type 1} → statement M
+asked-by-spec =
     tie.close
     (tie.spec
     subaddress-requires

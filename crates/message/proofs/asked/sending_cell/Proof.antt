@@ -1,8 +1,8 @@
--- `message::format::sending_cell` meets its contract, by the cases of its test. Assumes nothing.
+-- `message::asked::sending_cell` meets its contract, by the cases of its test. Assumes nothing.
 use borrow.Author.Needs.{needs}
 use Rattle.rules.proofs.Cases.{cases}
-use Rattle.message.proofs.format.sending_cell.Statement.{statement}
-use Rattle.message.proofs.format.sending_cell.Tie as tie
+use Rattle.message.proofs.asked.sending_cell.Statement.{statement}
+use Rattle.message.proofs.asked.sending_cell.Tie as tie
 
 returns : tie.Need-returns
 returns c = search (needs, cases)
