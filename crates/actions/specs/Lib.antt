@@ -1,5 +1,5 @@
--- The library's actions on a terminal.
+-- The library's actions on a terminal. To be read: `Actions`.
 --     Actions    each action, refusals included
---     Refusal    which number refuses, told first, as the code does it
+--     Cut        how the code is cut
 pub mod Actions
-pub mod Refusal
+pub mod Cut

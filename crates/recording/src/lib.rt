@@ -18,7 +18,7 @@ ghost use Rattle.recording.specs.Field.{
   ValueThere,
 };
 ghost use Rattle.recording.specs.Reading.{readAt};
-ghost use Rattle.recording.specs.Found.{wordFound};
+ghost use Rattle.recording.specs.Cut.Found.{wordFound};
 
 // What a field holds, in the order of the tags 01 to 07.
 pub enum Field {

@@ -1,5 +1,5 @@
 -- The terminal of document 01, in its order; its open message is in the crate `message`. Lay it
--- beside the paper, file by file.
+-- beside the paper, file by file; of `Cut` nothing has to be read.
 --     State          what is held, a setter for each field, setup
 --     Opening        what an opening does
 --     Closing        closing, faults, and the sound end
@@ -7,9 +7,9 @@
 --     Event          what happens to the terminal, and what comes of it
 --     WordStep       what rules 1 to 8 decide is done
 --     SilenceStep    what silence decides is done
---     Deed           acts that do alike, in one, as the code does them
 --     Machine        one step for each event, and a run
 --     Fitness        refusal 4: which states are fit
+--     Cut            how the code is cut
 pub mod State
 pub mod Opening
 pub mod Closing
@@ -17,6 +17,6 @@ pub mod Reply
 pub mod Event
 pub mod WordStep
 pub mod SilenceStep
-pub mod Deed
 pub mod Machine
 pub mod Fitness
+pub mod Cut

@@ -17,7 +17,7 @@ use Rattle.recording.proofs.InOrder.{AreBytes}
 use Rattle.lines.specs.Written.{lineRoom}
 use Rattle.tray.specs.declared.Stop.the-variants.{Full}
 use Rattle.tray.specs.Run.{Tray}
-use Rattle.tray.specs.Window.{
+use Rattle.tray.specs.Cut.Window.{
   Passed,
   stopping,
   takes,
@@ -28,7 +28,7 @@ use Rattle.tray.specs.Window.{
   mostTurns,
   windowRun,
 }
-use Rattle.tray.specs.Pieces.{Streamed, begins, reads, ends, calls, Finished}
+use Rattle.tray.specs.Cut.Pieces.{Streamed, begins, reads, ends, calls, Finished}
 use Rattle.tray.specs.Sound.{SoundTray}
 use Rattle.tray.proofs.SoundLaws.{taking-is-sound}
 

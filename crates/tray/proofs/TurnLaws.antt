@@ -1,4 +1,4 @@
--- The laws of `specs/Window.antt`, as the code takes one field of a window. Assumes nothing.
+-- The laws of `specs/Cut/Window.antt`, as the code takes one field of a window. Assumes nothing.
 use mathlib.Core.Path.{_≡_, refl, sym, ap, _∙_}
 use mathlib.Core.Bool.{Bool, true, false}
 use mathlib.Core.List.{List}
@@ -26,8 +26,8 @@ use Rattle.tray.specs.declared.Stop.{Stop}
 use Rattle.tray.specs.declared.Stop.the-variants.{Going, Full, Over}
 use Rattle.tray.specs.Happening.{happeningOf, happened}
 use Rattle.tray.specs.Run.{answerLine, counted, taking, takingLine}
-use Rattle.tray.specs.Window.{Passed, stopped, stoppedAt, takes, passing, turn}
-use Rattle.tray.specs.Held.{cardOf, trayOf, passedOf, WordsThere, WasRead}
+use Rattle.tray.specs.Cut.Window.{Passed, stopped, stoppedAt, takes, passing, turn}
+use Rattle.tray.specs.Cut.Held.{cardOf, trayOf, passedOf, WordsThere, WasRead}
 
 -- ---- a field that is taken
 

@@ -25,7 +25,7 @@ use Rattle.recording.specs.declared.Field.the-variants.{
 use Rattle.recording.specs.declared.Reading.{Reading}
 use Rattle.recording.specs.declared.Reading.the-variants.{Taken, End, Refused}
 use Rattle.recording.specs.Bytes.{wordsAt}
-use Rattle.recording.specs.Pieces.{shiftedField, shifted}
+use Rattle.recording.specs.Cut.Pieces.{shiftedField, shifted}
 use Rattle.recording.specs.Reading.{readAt}
 use Rattle.recording.proofs.TakenLaws.{taken-within}
 use Rattle.recording.proofs.TakenWords.{more-bytes-same-words}
@@ -47,7 +47,7 @@ use Rattle.tray.specs.Run.{
   wholeOf,
   wholeFrom,
 }
-use Rattle.tray.specs.Window.{
+use Rattle.tray.specs.Cut.Window.{
   Passed,
   mayGoOn,
   stoppedAt,
@@ -60,7 +60,7 @@ use Rattle.tray.specs.Window.{
   mostTurns,
   windowRun,
 }
-use Rattle.tray.specs.Pieces.{linesOf}
+use Rattle.tray.specs.Cut.Pieces.{linesOf}
 use Rattle.tray.proofs.PrintedLaws.{
   taking-line-fits,
   last-line-fits,

@@ -24,16 +24,16 @@ use Rattle.bus.specs.Word.{wordOf}
 use Rattle.recording.specs.declared.Found.{Found}
 use Rattle.recording.specs.declared.Found.the-variants.{Value, Nothing}
 use Rattle.recording.specs.Bytes.{timeAt}
-use Rattle.recording.specs.Found.{wordFound}
+use Rattle.recording.specs.Cut.Found.{wordFound}
 use Rattle.recording.proofs.FoundLaws.{found-is-read, found-moves-on}
 use Rattle.lines.specs.Written.{lineRoom}
 use Rattle.tray.specs.declared.Ran.{Ran}
 use Rattle.tray.specs.declared.Stop.the-variants.{Going}
 use Rattle.tray.specs.Happening.{happeningOf, happened}
 use Rattle.tray.specs.Run.{taking, takingLine}
-use Rattle.tray.specs.Window.{Passed, takes, passing, turn, turns}
-use Rattle.tray.specs.Held.{passedOf}
-use Rattle.tray.specs.Row.{Stored, stored, wordStored, rowFrom, rowStored, marksOn, ranAfter}
+use Rattle.tray.specs.Cut.Window.{Passed, takes, passing, turn, turns}
+use Rattle.tray.specs.Cut.Held.{passedOf}
+use Rattle.tray.specs.Cut.Row.{Stored, stored, wordStored, rowFrom, rowStored, marksOn, ranAfter}
 use Rattle.tray.proofs.LineLaws.{nothing-written}
 
 -- ---- a word that is wanted

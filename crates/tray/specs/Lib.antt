@@ -1,23 +1,17 @@
--- A tray run. Read `Run` first: what a recording prints.
+-- A tray run. Read `Run` first: what a recording prints. To be read: all but `Cut`.
 --     Happening    what a field tells, and what comes of it
 --     Run          a run of a recording, its text and how far it comes
---     Window       a call over a window, its lines in a lent buffer
---     Held         what the code holds of a run
---     Row          a row of data words, as the code takes it
---     Pieces       a recording that comes in pieces
 --     Sound        a tray that no action of the library refuses by 1 or 4
 --     ByActions    a run by the library's actions
 --     Accepted     what the reader takes of some bytes, and recordings that it takes whole
 --     Answered     an answer and an end: what a run makes of any bytes
 --     OneBlock     one broken message costs one block, over recordings
+--     Cut          how the code is cut: windows, rows, pieces
 pub mod Happening
 pub mod Run
-pub mod Window
-pub mod Held
-pub mod Row
-pub mod Pieces
 pub mod Sound
 pub mod ByActions
 pub mod Accepted
 pub mod Answered
 pub mod OneBlock
+pub mod Cut

@@ -10,7 +10,7 @@ ghost use Rattle.terminal.specs.Event.{shown, replied};
 ghost use Rattle.lines.specs.Written.{put};
 ghost use Rattle.recording.specs.Bytes.{wordsAt};
 ghost use Rattle.tray.specs.Happening.{happeningOf, happened};
-ghost use Rattle.tray.specs.Window.{
+ghost use Rattle.tray.specs.Cut.Window.{
   isGoing,
   stopped,
   stoppedAt,
@@ -19,7 +19,7 @@ ghost use Rattle.tray.specs.Window.{
   windowRun,
   keptRest,
 };
-ghost use Rattle.tray.specs.Held.{
+ghost use Rattle.tray.specs.Cut.Held.{
   cardOf,
   trayOf,
   runAtStart,

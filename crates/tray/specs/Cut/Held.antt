@@ -14,7 +14,7 @@ use Rattle.recording.specs.Bytes.{bytesLeft}
 use Rattle.tray.specs.declared.Run.{Run}
 use Rattle.tray.specs.declared.Ran.{Ran}
 use Rattle.tray.specs.Run.{Tray}
-use Rattle.tray.specs.Window.{Passed}
+use Rattle.tray.specs.Cut.Window.{Passed}
 
 -- the queue's places and the RAM are lent
 abbrev pub cardOf : Held → List ℕ → List ℕ → Card
