@@ -10,6 +10,7 @@ use Rattle.bus.specs.declared.kind.Kind.the-variants.{Receive, ModeStatus, Mode
 use Rattle.bus.specs.Kind.{kindOf}
 use Rattle.bus.specs.Status.{withoutError}
 use Rattle.card.specs.Memory.{wordAddress}
+use Rattle.queue.specs.declared.Queue.{Queue}
 use Rattle.message.specs.declared.state.OpenMessage.{OpenMessage}
 use Rattle.message.specs.declared.state.Message.{Message}
 use Rattle.message.specs.declared.state.Message.the-variants.{Idle, Open}
@@ -27,9 +28,13 @@ pub record Kept (Spent : ℕ → Type 0) (address : ℕ) : Type 0 where
   pub service-cell : (block cell : ℕ) → Spent block → 58 ≤ cell → cell ≤ 61
       → address ≢ wordAddress block cell
 
--- what the card holds is the same: every queue entry, and every memory cell that is kept
+-- queues are the same, entry for entry: none is excepted
+pub record SameQueue (here there : Queue) : Type 0 where
+  pub entries : here ≡ there
+
+-- what the card holds is the same: the queue, and every memory cell that is kept
 pub record Alike (Spent : ℕ → Type 0) (here there : Card) : Type 0 where
-  pub queue : here .queue ≡ there .queue
+  pub queue : SameQueue (here .queue) (there .queue)
   pub long : length (here .ram) ≡ length (there .ram)
   pub cell : (address : ℕ) → Kept Spent address
       → getD (here .ram) address 0 ≡ getD (there .ram) address 0

@@ -156,7 +156,7 @@ an-open-message-would-differ claim =
     claim (chains 0x4002 0) command sound (word1 ∷ []) (queueRead ∷ []) (tray-command 0x4002 0)
     (a-word refl (a-word refl (a-silence nothing))) (a-word refl nothing) whatever
     (spared-from 2 (queueRead ∷ []) (run (word command ∷ sound) (chains 0x4002 0)) refl)
-    .later .0 .cards .queue in
+    .later .0 .cards .queue .entries in
     let differs : _≡_ {A = ℕ} 1 0 = ap (λ (queue : Queue). queue .ring .start) queues in
     omega arith
 

@@ -41,8 +41,9 @@ use Rattle.terminal.specs.Closing.{
   ended,
 }
 use Rattle.terminal.specs.Event.{openedBy}
-use Rattle.terminal_laws.specs.OneBlock.{stillBefore}
+use Rattle.terminal_laws.specs.OneBlock.{SameQueue, stillBefore}
 use Rattle.terminal_laws.proofs.OneBlock.Agreement.{Agree, both-service, both-linked, same-entry}
+use Rattle.terminal_laws.proofs.OneBlock.Queues.{same-closed}
 use Rattle.terminal_laws.proofs.OneBlock.Relation.{
   Asks,
   asks-status,
@@ -105,20 +106,22 @@ statuses-opened ModeTake entry word core status is statuses = equal
 statuses-opened ModeReply entry word core status is statuses = equal
 statuses-opened Illegal entry word core status is statuses = equal
 
--- ---- on a card, and on the same with another remembered status and a memory that agrees
+-- ---- on a card, and on one with another remembered status, a queue that is the same, and a memory
+-- that agrees
 
-module _ {Spent : ℕ → Type 0} {before : Bool} (core : Core) (queue : Queue) (status : ℕ)
+module _ {Spent : ℕ → Type 0} {before : Bool} (core : Core) (status : ℕ)
+    (queue queue′ : Queue) (queues : SameQueue queue queue′)
     (ram other : List ℕ) (agree : Agree Spent ram other) where
   pub related-faulted : (asked : Asked) (code time : ℕ) (message : OpenMessage)
       → Statuses before (Open message) (core .status) status
       → Related Spent before (faulted asked code time message (card core queue ram))
-      (faulted asked code time message (card (withStatus status core) queue other))
+      (faulted asked code time message (card (withStatus status core) queue′ other))
   unfolding faulted closing withStatus withMessage
   related-faulted asked code time message statuses =
       record {
         status = withError status;
         core = refl;
-        queue = refl;
+        queue = same-closed queues asked message;
         statuses = statuses-faulted statuses;
         cells = both-closed asked _ time message agree;
       }
@@ -126,13 +129,13 @@ module _ {Spent : ℕ → Type 0} {before : Bool} (core : Core) (queue : Queue) 
   pub related-ended : (asked : Asked) (time : ℕ) (message : OpenMessage)
       → Statuses before (Open message) (core .status) status
       → Related Spent before (ended asked time message (card core queue ram))
-      (ended asked time message (card (withStatus status core) queue other))
+      (ended asked time message (card (withStatus status core) queue′ other))
   unfolding ended closing endWords replies withSwitches withStatus withMessage
   related-ended asked time message statuses =
       record {
         status = status;
         core = refl;
-        queue = refl;
+        queue = same-closed queues asked message;
         statuses = statuses-idle statuses;
         cells = both-closed asked _ time message agree;
       }
@@ -141,7 +144,7 @@ module _ {Spent : ℕ → Type 0} {before : Bool} (core : Core) (queue : Queue) 
       → Statuses before message (core .status) status
       → Related Spent (stillBefore before (openedBy (askedOf (word .value))))
       (opening word (card core queue ram))
-      (opening word (card (withStatus status core) queue other))
+      (opening word (card (withStatus status core) queue′ other))
   unfolding opening openedCore openedMessage withStatus withLast withMessage
   related-opened word unspent statuses =
       let asked = askedOf (word .value) in
@@ -151,7 +154,7 @@ module _ {Spent : ℕ → Type 0} {before : Bool} (core : Core) (queue : Queue) 
         core =
             rw (same-entry (core .table) (asked .cell) unspent
             (cell-in-table (word .value)) agree) refl;
-        queue = refl;
+        queue = queues;
         statuses = statuses-opened (kindOf (word .value)) entry word core status refl statuses;
         cells = agree;
       }
@@ -166,10 +169,5 @@ related-opening {Spent} {before} {here} {there} word unspent related =
     (λ (core : Core). Related Spent (stillBefore before (openedBy (askedOf (word .value))))
     (opening word here) (opening word (card core (there .queue) (there .ram))))
     (sym (related .core))
-    (subst
-    (λ (queue : Queue). Related Spent (stillBefore before (openedBy (askedOf (word .value))))
-    (opening word here)
-    (opening word (card (withStatus (related .status) (here .core)) queue (there .ram))))
-    (sym (related .queue))
-    (related-opened (here .core) (here .queue) (related .status) (here .ram) (there .ram)
-    (related .cells) word unspent (related .statuses)))
+    (related-opened (here .core) (related .status) (here .queue) (there .queue) (related .queue)
+    (here .ram) (there .ram) (related .cells) word unspent (related .statuses))

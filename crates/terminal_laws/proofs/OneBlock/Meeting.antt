@@ -9,7 +9,6 @@ use native.Mathlib.Omega.{arith}
 use Rattle.bus.specs.declared.kind.Kind.the-variants.{Receive}
 use Rattle.bus.specs.Kind.{kindOf}
 use Rattle.bus.specs.Status.{withoutError}
-use Rattle.queue.specs.declared.Queue.{Queue}
 use Rattle.message.specs.declared.judge.WordAct.{WordAct}
 use Rattle.message.specs.declared.state.OpenMessage.{OpenMessage}
 use Rattle.message.specs.declared.state.Message.the-variants.{Idle, Open}
@@ -19,12 +18,13 @@ use Rattle.message.specs.Asked.{asks}
 use Rattle.message.specs.Words.{ownCommand}
 use Rattle.terminal.specs.declared.state.Core.{Core}
 use Rattle.terminal.specs.State.{Card, withStatus, withMessage}
-use Rattle.terminal.specs.Closing.{closedQueue, closing, faulted}
+use Rattle.terminal.specs.Closing.{closing, faulted}
 use Rattle.terminal.specs.Event.{Event, word, none, quietly, opens}
 use Rattle.terminal.specs.WordStep.{wordDone, wordStep}
 use Rattle.terminal.specs.Machine.{step}
 use Rattle.terminal_laws.specs.OneBlock.{same, Later, Settled, closed, superseded, Spared}
 use Rattle.terminal_laws.proofs.OneBlock.Agreement.{agree-sym, agree-trans, both-linked}
+use Rattle.terminal_laws.proofs.OneBlock.Queues.{same-closed}
 use Rattle.terminal_laws.proofs.OneBlock.Relation.{
   asking-none,
   but-error,
@@ -119,9 +119,7 @@ module _ {Spent : ℕ → Type 0} {before : Bool} (start start′ : Card) (messa
         status = status′;
         core =
             ap (λ (core : Core). withStatus status′ (withMessage Idle core)) (related .core);
-        queue =
-            ap (λ (queue : Queue). closedQueue (asks message) message queue)
-            (related .queue);
+        queue = same-closed (related .queue) (asks message) message;
         statuses = but-error asking-none (but ∙ statuses ∙ sym but′);
         cells =
             agree-trans (agree-sym agree)

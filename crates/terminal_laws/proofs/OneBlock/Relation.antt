@@ -1,6 +1,6 @@
 -- The relation between two runs that go on with the same events, for any set of spent blocks: the
 -- second core is the first with another remembered status, and memories agree. Assumes nothing.
-use mathlib.Core.Path.{_≡_, refl, sym, ap}
+use mathlib.Core.Path.{_≡_, refl, ap}
 use mathlib.Core.Bool.{Bool, true}
 use Prim.Native.Nat.{ℕ, _+_}
 use Rattle.bus.specs.declared.kind.Kind.{Kind}
@@ -15,8 +15,9 @@ use Rattle.message.specs.declared.state.Message.the-variants.{Idle, Open}
 use Rattle.message.specs.Message.{further, movedMessage}
 use Rattle.terminal.specs.State.{Card, withStatus}
 use Rattle.terminal.specs.Event.{Outcome}
+use Rattle.terminal_laws.specs.OneBlock.{SameQueue, Alike, stillBefore, SameAnswer}
 use Rattle.terminal_laws.proofs.OneBlock.Agreement.{Agree, agree-refl}
-use Rattle.terminal_laws.specs.OneBlock.{Alike, stillBefore, SameAnswer}
+use Rattle.terminal_laws.proofs.OneBlock.Queues.{same-queue}
 
 -- ---- the remembered statuses
 
@@ -78,7 +79,7 @@ statuses-moved (but-error (asking asks) same) = but-error (asking asks) same
 pub record Related (Spent : ℕ → Type 0) (before : Bool) (here there : Card) : Type 0 where
   pub status : ℕ
   pub core : there .core ≡ withStatus status (here .core)
-  pub queue : there .queue ≡ here .queue
+  pub queue : SameQueue (here .queue) (there .queue)
   pub statuses : Statuses before (here .core .message) (here .core .status) status
   pub cells : Agree Spent (here .ram) (there .ram)
 
@@ -89,7 +90,7 @@ related-self here =
     record {
       status = here .core .status;
       core = refl;
-      queue = refl;
+      queue = same-queue (here .queue);
       statuses = equal;
       cells = agree-refl (here .ram);
     }
@@ -97,7 +98,7 @@ related-self here =
 pub related-alike : {Spent : ℕ → Type 0} {before : Bool} {here there : Card}
     → Related Spent before here there → Alike Spent here there
 related-alike related = record {
-  queue = sym (related .queue);
+  queue = related .queue;
   long = related .cells .long;
   cell = related .cells .cell;
 }

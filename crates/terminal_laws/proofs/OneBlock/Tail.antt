@@ -5,6 +5,7 @@ use mathlib.Core.Bool.{Bool, true, false, cond}
 use mathlib.Core.List.{List, [], _∷_}
 use Prim.Native.Nat.{ℕ}
 use Rattle.queue.specs.declared.Queue.{Queue}
+use Rattle.queue.specs.Queue.{oldestWord}
 use Rattle.message.specs.declared.judge.WordAct.{WordAct}
 use Rattle.message.specs.declared.judge.WordAct.the-variants.{
   Ignore,
@@ -31,7 +32,7 @@ use Rattle.message.specs.declared.state.OpenMessage.{OpenMessage}
 use Rattle.message.specs.declared.state.Message.{Message}
 use Rattle.message.specs.declared.state.Message.the-variants.{Idle, Open}
 use Rattle.bus.specs.declared.word.Word.{Word}
-use Rattle.message.specs.Message.{further}
+use Rattle.message.specs.Message.{further, movedMessage}
 use Rattle.message.specs.Asked.{asks}
 use Rattle.message.specs.Words.{ownCommand, onWord}
 use Rattle.message.specs.Silence.{onSilence}
@@ -48,6 +49,7 @@ use Rattle.terminal.specs.Event.{
   hostWrite,
   tableMove,
   flagsWrite,
+  queueWord,
   quietly,
   opens,
   goesOn,
@@ -62,8 +64,17 @@ use Rattle.terminal.specs.Machine.{
   step,
   run,
 }
-use Rattle.terminal_laws.specs.OneBlock.{stillBefore, same, SameOutcome, Later, Spared}
+use Rattle.terminal_laws.specs.OneBlock.{
+  SameQueue,
+  stillBefore,
+  SameAnswer,
+  same,
+  SameOutcome,
+  Later,
+  Spared,
+}
 use Rattle.terminal_laws.proofs.OneBlock.Agreement.{Agree, both-cell, both-words, same-part}
+use Rattle.terminal_laws.proofs.OneBlock.Queues.{same-oldest, same-without}
 use Rattle.terminal_laws.proofs.OneBlock.Relation.{
   Statuses,
   statuses-further,
@@ -75,24 +86,46 @@ use Rattle.terminal_laws.proofs.OneBlock.Relation.{
 use Rattle.terminal_laws.proofs.OneBlock.Changes.{related-faulted, related-ended, related-opening}
 use Rattle.terminal_laws.proofs.OneBlock.Answers.{same-reply, sent-at-most}
 
--- ---- one event, on a card and on the same with another remembered status and a memory that agrees
+-- ---- one event, on a card and on one with another remembered status, a queue that is the same, and
+-- a memory that agrees
 
-module _ {Spent : ℕ → Type 0} {before : Bool} (core : Core) (queue : Queue) (status : ℕ)
+module _ {Spent : ℕ → Type 0} {before : Bool} (core : Core) (status : ℕ)
+    (queue queue′ : Queue) (queues : SameQueue queue queue′)
     (ram other : List ℕ) (agree : Agree Spent ram other) (unspent : Spent (core .table) → ⊥)
     (statuses : Statuses before (core .message) (core .status) status) where
   abbrev here : Card
   here = card core queue ram
 
   abbrev there : Card
-  there = card (withStatus status core) queue other
+  there = card (withStatus status core) queue′ other
+
+  -- the cards after the event are those of another core, with memories that agree still; nothing
+  -- comes back and nothing opens
+  still : (message : Message) (new : Core) (cells cells′ : List ℕ)
+      → Statuses before (new .message) (new .status) status → Agree Spent cells cells′
+      → StillRelated Spent before message (quietly (card new queue cells))
+      (quietly (card (withStatus status new) queue′ cells′))
+  unfolding stillBefore
+  still message new cells cells′ remembered agree′ =
+      record {
+        answer = same;
+        related =
+            record {
+              status = status;
+              core = refl;
+              queue = queues;
+              statuses = remembered;
+              cells = agree′;
+            };
+      }
 
   abbrev now : Related Spent before here there
-  now = record { status = status; core = refl; queue = refl; statuses = statuses; cells = agree }
+  now =
+      record { status = status; core = refl; queue = queues; statuses = statuses; cells = agree }
 
   still-quietly : (message : Message)
       → StillRelated Spent before message (quietly here) (quietly there)
-  unfolding stillBefore
-  still-quietly message = record { answer = same; related = now }
+  still-quietly message = still message core ram other statuses agree
 
   -- the open message goes on
   still-going-on : (stage : Stage) (second : Second) (taken : ℕ) (message : OpenMessage)
@@ -100,19 +133,10 @@ module _ {Spent : ℕ → Type 0} {before : Bool} (core : Core) (queue : Queue) 
       → StillRelated Spent before (Open message)
       (goesOn (further stage second taken message) here)
       (goesOn (further stage second taken message) there)
-  unfolding stillBefore withStatus withMessage
+  unfolding withStatus withMessage
   still-going-on stage second taken message remembered =
-      record {
-        answer = same;
-        related =
-            record {
-              status = status;
-              core = refl;
-              queue = refl;
-              statuses = statuses-further stage second taken remembered;
-              cells = agree;
-            };
-      }
+      still (Open message) (withMessage (Open (further stage second taken message)) core)
+      ram other (statuses-further stage second taken remembered) agree
 
   -- each act of a word
   still-word-done : (act : WordAct) (message : OpenMessage) (heard : Word)
@@ -123,17 +147,8 @@ module _ {Spent : ℕ → Type 0} {before : Bool} (core : Core) (queue : Queue) 
   unfolding wordDone stillBefore withStatus withMessage faulted closing
   still-word-done Ignore message heard remembered = still-quietly (Open message)
   still-word-done (Store taken) message heard remembered =
-      record {
-        answer = same;
-        related =
-            record {
-              status = status;
-              core = refl;
-              queue = refl;
-              statuses = statuses-further _ _ _ remembered;
-              cells = both-cell _ _ _ agree;
-            };
-      }
+      still (Open message) (withMessage (Open (further Data (message .second) taken message)) core)
+      _ _ (statuses-further _ _ _ remembered) (both-cell _ _ _ agree)
   still-word-done (Check taken) message heard remembered =
       still-going-on Data (message .second) taken message remembered
   still-word-done (TakeSecond value) message heard remembered =
@@ -144,7 +159,7 @@ module _ {Spent : ℕ → Type 0} {before : Bool} (core : Core) (queue : Queue) 
       record {
         answer = same;
         related =
-            related-faulted core queue status ram other agree (asks message) code
+            related-faulted core status queue queue′ queues ram other agree (asks message) code
             (heard .time) message remembered;
       }
   still-word-done Supersede message heard remembered =
@@ -152,7 +167,7 @@ module _ {Spent : ℕ → Type 0} {before : Bool} (core : Core) (queue : Queue) 
         answer = same;
         related =
             related-opening heard unspent
-            (related-faulted core queue status ram other agree (asks message) 7
+            (related-faulted core status queue queue′ queues ram other agree (asks message) 7
             (heard .time) message remembered);
       }
   still-word-done Drop message heard remembered =
@@ -168,7 +183,8 @@ module _ {Spent : ℕ → Type 0} {before : Bool} (core : Core) (queue : Queue) 
       → Statuses before message (core .status) status
       → StillRelated Spent before message (wordMet message heard here) (wordMet message heard there)
   unfolding withStatus
-  still-word Idle heard remembered = still-own (ownCommand (core .station) (core .flags) heard) heard
+  still-word Idle heard remembered =
+      still-own (ownCommand (core .station) (core .flags) heard) heard
   still-word (Open message) heard remembered =
       still-word-done
       (onWord (core .station) (core .flags) (asks message) message heard)
@@ -188,14 +204,14 @@ module _ {Spent : ℕ → Type 0} {before : Bool} (core : Core) (queue : Queue) 
       record {
         answer = same;
         related =
-            related-faulted core queue status ram other agree (asks message) code
+            related-faulted core status queue queue′ queues ram other agree (asks message) code
             time message remembered;
       }
   still-silence-done End message time remembered =
       record {
         answer = same-reply message core status remembered;
         related =
-            related-ended core queue status ram other agree (asks message) time
+            related-ended core status queue queue′ queues ram other agree (asks message) time
             message remembered;
       }
 
@@ -207,54 +223,40 @@ module _ {Spent : ℕ → Type 0} {before : Bool} (core : Core) (queue : Queue) 
   still-silence (Open message) line time remembered =
       still-silence-done (onSilence (asks message) message line) message time remembered
 
+  -- the oldest entry leaves the queue
+  still-read : StillRelated Spent before (core .message) (queueReadStep here) (queueReadStep there)
+  unfolding queueReadStep stillBefore
+  still-read =
+      record {
+        answer =
+            subst (λ (oldest : ℕ). SameAnswer before (core .message)
+            (queueWord (oldestWord queue)) (queueWord oldest))
+            (same-oldest queues) same;
+        related =
+            record {
+              status = status;
+              core = refl;
+              queue = same-without queues;
+              statuses = statuses;
+              cells = agree;
+            };
+      }
+
   -- each event
   still-event : (event : Event)
       → StillRelated Spent before (core .message) (step event here) (step event there)
-  unfolding step wordStep silenceStep queueReadStep hostWriteStep tableMoveStep flagsWriteStep
-      stillBefore withStatus withTable withFlags withMessage
+  unfolding step wordStep silenceStep hostWriteStep tableMoveStep flagsWriteStep withStatus withTable
+      withFlags withMessage
   still-event (word heard) = still-word (core .message) heard statuses
   still-event (silence line time) = still-silence (core .message) line time statuses
-  still-event queueRead = record {
-    answer = same;
-    related =
-        record { status = status; core = refl; queue = refl; statuses = statuses; cells = agree };
-  }
+  still-event queueRead = still-read
   still-event (hostWrite address words) =
-      record {
-        answer = same;
-        related =
-            record {
-              status = status;
-              core = refl;
-              queue = refl;
-              statuses = statuses;
-              cells = both-words address words agree;
-            };
-      }
+      still (core .message) core _ _ statuses (both-words address words agree)
   still-event (tableMove table) =
-      record {
-        answer = same;
-        related =
-            record {
-              status = status;
-              core = refl;
-              queue = refl;
-              statuses = statuses-moved statuses;
-              cells = agree;
-            };
-      }
+      still (core .message) (withTable table (withMessage (movedMessage (core .message)) core))
+      ram other (statuses-moved statuses) agree
   still-event (flagsWrite flags) =
-      record {
-        answer = same;
-        related =
-            record {
-              status = status;
-              core = refl;
-              queue = refl;
-              statuses = statuses;
-              cells = agree;
-            };
-      }
+      still (core .message) (withFlags flags core) ram other statuses agree
 
 -- ---- related cards
 
@@ -267,12 +269,8 @@ module _ {Spent : ℕ → Type 0} {before : Bool} {here there : Card} where
       (λ (core : Core). StillRelated Spent before (here .core .message) (step event here)
       (step event (card core (there .queue) (there .ram))))
       (sym (related .core))
-      (subst
-      (λ (queue : Queue). StillRelated Spent before (here .core .message) (step event here)
-      (step event (card (withStatus (related .status) (here .core)) queue (there .ram))))
-      (sym (related .queue))
-      (still-event (here .core) (here .queue) (related .status) (here .ram) (there .ram)
-      (related .cells) unspent (related .statuses) event))
+      (still-event (here .core) (related .status) (here .queue) (there .queue) (related .queue)
+      (here .ram) (there .ram) (related .cells) unspent (related .statuses) event)
 
 -- what the relation shows of an outcome
 pub still-same : {Spent : ℕ → Type 0} {before : Bool} (message : Message) (event : Event)
