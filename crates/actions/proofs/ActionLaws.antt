@@ -51,6 +51,7 @@ use Rattle.actions.specs.Actions.{
   After,
   after,
   took,
+  over,
   alone,
   fitTerminal,
   withMemory,
@@ -96,7 +97,7 @@ some-is-none less clash = omega arith
 
 module _ (given : Terminal) (ram : List ℕ) where
   abbrev over-memory : Card
-  over-memory = card (given .core) (given .queue) ram
+  over-memory = over given ram
 
   module _ (inOrder : Bool) (event : Event) where
     abbrev memory-number : ℕ

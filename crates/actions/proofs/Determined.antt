@@ -3,9 +3,8 @@
 use denote.Ref.{now}
 use Rattle.rules.proofs.Determined.{Determined, DeterminedAs, same}
 use Rattle.terminal.specs.declared.state.Reply.the-variants.{Silent}
-use Rattle.terminal.specs.State.{card}
 use Rattle.terminal.specs.Event.{replied, queueWord}
-use Rattle.actions.specs.Actions.{After, after, alone}
+use Rattle.actions.specs.Actions.{After, after, over, alone}
 use Rattle.actions.proofs.Terminal.setup.Kinds as setup-kinds
 use Rattle.actions.proofs.Terminal.setup.Reads as setup-reads
 use Rattle.actions.proofs.Terminal.is_fit.Kinds as is-fit-kinds
@@ -29,19 +28,19 @@ setup κs arguments result result′ exit exit′ = same
 pub word :
     DeterminedAs 1 word-kinds.ps word-kinds.r word-reads.Post After
     (λ κs result exit. after (result .refusal) (replied (result .reply))
-    (card (result .terminal .core) (result .terminal .queue) (now (exit .1 .0))))
+    (over (result .terminal) (now (exit .1 .0))))
 word κs arguments result result′ exit exit′ = same
 
 pub silence :
     DeterminedAs 1 silence-kinds.ps silence-kinds.r silence-reads.Post After
     (λ κs result exit. after (result .refusal) (replied (result .reply))
-    (card (result .terminal .core) (result .terminal .queue) (now (exit .1 .0))))
+    (over (result .terminal) (now (exit .1 .0))))
 silence κs arguments result result′ exit exit′ = same
 
 pub host-write :
     DeterminedAs 2 host-write-kinds.ps host-write-kinds.r host-write-reads.Post After
     (λ κs result exit. after (result .refusal) (replied Silent)
-    (card (result .terminal .core) (result .terminal .queue) (now (exit .1 .0))))
+    (over (result .terminal) (now (exit .1 .0))))
 host-write κs arguments result result′ exit exit′ = same
 
 pub read-queue :

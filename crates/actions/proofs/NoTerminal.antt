@@ -10,11 +10,12 @@ use Rattle.card.specs.Memory.{cardWords}
 use Rattle.actions.specs.declared.Terminal.{Terminal}
 use Rattle.terminal.specs.declared.state.Answer.{Answer}
 use Rattle.terminal.specs.declared.state.Reply.the-variants.{Silent}
-use Rattle.terminal.specs.State.{Card, card}
+use Rattle.terminal.specs.State.{Card}
 use Rattle.terminal.specs.Event.{Event, replied, queueWord}
 use Rattle.actions.specs.Actions.{
   After,
   after,
+  over,
   alone,
   withMemory,
   withoutMemory,
@@ -27,10 +28,6 @@ use Rattle.actions.specs.Actions.{
   noTerminal,
 }
 use Rattle.actions.proofs.SetupLaws.{no-terminal-is-unfit}
-
--- a terminal to which a memory is lent
-abbrev over : Terminal → List ℕ → Card
-over given ram = card (given .core) (given .queue) ram
 
 -- 1 where the memory is not the card's, else 4, and all as it was
 abbrev byMemory : Terminal → List ℕ → After

@@ -42,9 +42,12 @@ after refusal answer new = record { refusal = refusal; answer = answer; card = n
 abbrev pub took : Outcome → After
 took outcome = after 0 (outcome .answer) (outcome .card)
 
--- a terminal to which no memory was lent
+-- a terminal to which a memory is lent, and one to which none is
+abbrev pub over : Terminal → List ℕ → Card
+over given ram = card (given .core) (given .queue) ram
+
 abbrev pub alone : Terminal → Card
-alone given = card (given .core) (given .queue) []
+alone given = over given []
 
 -- ---- what is judged
 

@@ -4,7 +4,7 @@ ghost use Rattle.terminal.specs.State.{card};
 ghost use Rattle.terminal.specs.Event.{replied};
 ghost use Rattle.terminal.specs.WordStep.{wordStep};
 ghost use Rattle.terminal.specs.SilenceStep.{silenceStep};
-ghost use Rattle.actions.specs.Actions.{after, took, wordAction, silenceAction};
+ghost use Rattle.actions.specs.Actions.{after, took, wordAction, silenceAction, over};
 use crate::Answered;
 use crate::Terminal;
 use bus::word;
@@ -13,8 +13,8 @@ use terminal::state::Reply;
 
 impl Terminal {
     fn take_word(self, ram: &mut [u16], word: Word) -> Terminal
-        ensures { λ left. ⌜ card (left .core) (left .queue) (now (ram .exit))
-            ≡ wordStep word (card (self .core) (self .queue) (now (ram .entry))) .card ⌝ }
+        ensures { λ left. ⌜ over left (now (ram .exit))
+            ≡ wordStep word (over self (now (ram .entry))) .card ⌝ }
     {
         let core = self.core;
         let mut queue = self.queue;
@@ -31,8 +31,8 @@ impl Terminal {
 
     fn take_silence(mut self, ram: &mut [u16], line: bool, time: u32) -> Answered
         ensures { λ left. ⌜ after (left .refusal) (replied (left .reply))
-            (card (left .terminal .core) (left .terminal .queue) (now (ram .exit)))
-            ≡ took (silenceStep line time (card (self .core) (self .queue) (now (ram .entry)))) ⌝ }
+            (over (left .terminal) (now (ram .exit)))
+            ≡ took (silenceStep line time (over self (now (ram .entry)))) ⌝ }
     {
         let core = self.core;
         let mut queue = self.queue;
@@ -55,8 +55,8 @@ impl Terminal {
     // A word from the bus: marks (bit 0 line, 1 command sync, 2 sound, 3 joined), value, time.
     pub fn word(self, ram: &mut [u16], marks: u8, value: u16, time: u32) -> Answered
         ensures { λ answer. ⌜ after (answer .refusal) (replied (answer .reply))
-            (card (answer .terminal .core) (answer .terminal .queue) (now (ram .exit)))
-            ≡ wordAction marks value time (card (self .core) (self .queue) (now (ram .entry))) ⌝ }
+            (over (answer .terminal) (now (ram .exit)))
+            ≡ wordAction marks value time (over self (now (ram .entry))) ⌝ }
     {
         let refusal = self.memory_refusal(ram.len(), marks <= 15);
         if refusal != 0 {
@@ -77,8 +77,8 @@ impl Terminal {
     // Silence on line 0, A, or 1, B.
     pub fn silence(self, ram: &mut [u16], line: u8, time: u32) -> Answered
         ensures { λ answer. ⌜ after (answer .refusal) (replied (answer .reply))
-            (card (answer .terminal .core) (answer .terminal .queue) (now (ram .exit)))
-            ≡ silenceAction line time (card (self .core) (self .queue) (now (ram .entry))) ⌝ }
+            (over (answer .terminal) (now (ram .exit)))
+            ≡ silenceAction line time (over self (now (ram .entry))) ⌝ }
     {
         let refusal = self.memory_refusal(ram.len(), line <= 1);
         if refusal != 0 {

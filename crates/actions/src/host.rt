@@ -10,6 +10,7 @@ ghost use Rattle.actions.specs.Actions.{
   readQueueAction,
   moveTableAction,
   setFlagsAction,
+  over,
 };
 use crate::Done;
 use crate::QueueAnswered;
@@ -20,9 +21,9 @@ impl Terminal {
     // The host writes 1 to 64 words from an address on.
     pub fn host_write(self, ram: &mut [u16], address: u16, words: &[u16]) -> Done
         ensures { λ done. ⌜ after (done .refusal) (replied Silent)
-            (card (done .terminal .core) (done .terminal .queue) (now (ram .exit)))
+            (over (done .terminal) (now (ram .exit)))
             ≡ hostWriteAction address (now (words .entry))
-            (card (self .core) (self .queue) (now (ram .entry))) ⌝ }
+            (over self (now (ram .entry))) ⌝ }
     {
         let refusal = self.memory_refusal(ram.len(), true);
         if refusal != 0 {

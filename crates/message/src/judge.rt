@@ -193,13 +193,7 @@ fn word_in_stage(
 }
 
 // A word while a message is open.
-pub fn on_word(
-    station: u16,
-    flags: u16,
-    asked: Asked,
-    message: OpenMessage,
-    word: Word,
-) -> WordAct
+pub fn on_word(station: u16, flags: u16, asked: Asked, message: OpenMessage, word: Word) -> WordAct
     ensures { λ act. ⌜ act ≡ onWord station flags asked message word ⌝ }
 {
     let own = is_own(station, flags, word);

@@ -2,8 +2,7 @@
 -- of every cell and every queue place that was lent. Assumes nothing.
 use denote.Ref.{now}
 use Rattle.rules.proofs.Determined.{Determined, DeterminedAs, same}
-use Rattle.queue.specs.Queue.{queue}
-use Rattle.terminal.specs.State.{Card, card}
+use Rattle.terminal.specs.State.{Card, cardOf}
 use Rattle.terminal.specs.Event.{replied, Shown, shown}
 use Rattle.terminal.proofs.state.Core.is_fit.Kinds as is-fit-kinds
 use Rattle.terminal.proofs.state.Core.is_fit.Reads as is-fit-reads
@@ -51,26 +50,22 @@ core-reply κs arguments result result′ exit exit′ = same
 
 pub close-by-fault :
     DeterminedAs 2 close-by-fault-kinds.ps close-by-fault-kinds.r close-by-fault-reads.Post Card
-    (λ κs result exit. card (result .core)
-    (queue (now (exit .1 .1 .1 .0)) (result .ring)) (now (exit .1 .1 .1 .1 .0)))
+    (λ κs result exit. cardOf result (now (exit .1 .1 .1 .0)) (now (exit .1 .1 .1 .1 .0)))
 close-by-fault κs arguments result result′ exit exit′ = same
 
 pub close-at-end :
     DeterminedAs 2 close-at-end-kinds.ps close-at-end-kinds.r close-at-end-reads.Post Card
-    (λ κs result exit. card (result .core)
-    (queue (now (exit .1 .1 .0)) (result .ring)) (now (exit .1 .1 .1 .0)))
+    (λ κs result exit. cardOf result (now (exit .1 .1 .0)) (now (exit .1 .1 .1 .0)))
 close-at-end κs arguments result result′ exit exit′ = same
 
 pub core-word :
     DeterminedAs 2 core-word-kinds.ps core-word-kinds.r core-word-reads.Post Card
-    (λ κs result exit. card (result .core)
-    (queue (now (exit .1 .1 .0)) (result .ring)) (now (exit .1 .1 .1 .0)))
+    (λ κs result exit. cardOf result (now (exit .1 .1 .0)) (now (exit .1 .1 .1 .0)))
 core-word κs arguments result result′ exit exit′ = same
 
 pub core-silence :
     DeterminedAs 2 core-silence-kinds.ps core-silence-kinds.r core-silence-reads.Post Shown
     (λ κs result exit. shown
-    (card (result .held .core) (queue (now (exit .1 .1 .0)) (result .held .ring))
-    (now (exit .1 .1 .1 .0)))
+    (cardOf (result .held) (now (exit .1 .1 .0)) (now (exit .1 .1 .1 .0)))
     (replied (result .reply)))
 core-silence κs arguments result result′ exit exit′ = same

@@ -17,7 +17,7 @@ use Rattle.message.specs.declared.state.Message.the-variants.{Idle}
 use Rattle.terminal.specs.declared.state.Core.{Core}
 use Rattle.terminal.specs.declared.state.Reply.{Reply}
 use Rattle.terminal.specs.declared.state.Reply.the-variants.{Silent, Status, Words, Last}
-use Rattle.terminal.specs.State.{Card, card, withStatus, withSwitches, withMessage}
+use Rattle.terminal.specs.State.{Card, card, withStatus, withSwitches, withMessage, withCore}
 use Rattle.message.specs.Message.{hasSecond}
 
 -- ---- the state word
@@ -67,7 +67,7 @@ closing asked state time message old =
 unfoldable pub faulted : Asked → ℕ → ℕ → OpenMessage → Card → Card
 faulted asked code time message old =
     closing asked (stateOf code (unlessBusy asked message (message .taken)) message) time message
-    (card (withStatus (withError (old .core .status)) (old .core)) (old .queue) (old .ram))
+    (withCore (withStatus (withError (old .core .status)) (old .core)) old)
 
 -- ---- the sound end
 
@@ -114,4 +114,4 @@ endWords asked core message =
 unfoldable pub ended : Asked → ℕ → OpenMessage → Card → Card
 ended asked time message old =
     closing asked (stateOf 0 (endWords asked (old .core) message) message) time message
-    (card (switched (asked .switch) (message .line) (old .core)) (old .queue) (old .ram))
+    (withCore (switched (asked .switch) (message .line) (old .core)) old)

@@ -10,7 +10,7 @@ use Rattle.terminal.specs.declared.state.Reply.{Reply}
 use Rattle.terminal.specs.declared.state.Answer.{Answer}
 use Rattle.terminal.specs.declared.state.Answer.the-variants.{Replied, QueueWord}
 use Rattle.terminal.specs.declared.state.Reply.the-variants.{Silent}
-use Rattle.terminal.specs.State.{Card, card, withMessage}
+use Rattle.terminal.specs.State.{Card, card, withMessage, withCore}
 use Rattle.message.specs.Asked.{askedOf}
 use Rattle.terminal.specs.Opening.{opening}
 
@@ -73,4 +73,4 @@ opens word′ old =
 -- the open message goes on
 abbrev pub goesOn : OpenMessage → Card → Outcome
 goesOn message old =
-    quietly (card (withMessage (Open message) (old .core)) (old .queue) (old .ram))
+    quietly (withCore (withMessage (Open message) (old .core)) old)

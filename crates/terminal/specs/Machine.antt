@@ -3,7 +3,16 @@ use mathlib.Core.List.{List, [], _∷_}
 use Prim.Native.Nat.{ℕ}
 use lib.Seq.{sets}
 use Rattle.queue.specs.Queue.{oldestWord, withoutOldest, queue}
-use Rattle.terminal.specs.State.{Card, card, withTable, withFlags, withMessage}
+use Rattle.terminal.specs.State.{
+  Card,
+  card,
+  withTable,
+  withFlags,
+  withMessage,
+  withCore,
+  withQueue,
+  withRam,
+}
 use Rattle.message.specs.Message.{movedMessage}
 use Rattle.terminal.specs.Event.{
   Event,
@@ -26,9 +35,7 @@ unfoldable pub queueReadStep : Card → Outcome
 queueReadStep old =
     record {
       card =
-          card (old .core)
-          (queue (old .queue .places) (withoutOldest (old .queue .ring)))
-          (old .ram);
+          withQueue (queue (old .queue .places) (withoutOldest (old .queue .ring))) old;
       answer = queueWord (oldestWord (old .queue));
       opened = none;
     }
@@ -36,19 +43,18 @@ queueReadStep old =
 -- the host writes words from an address on
 unfoldable pub hostWriteStep : ℕ → List ℕ → Card → Outcome
 hostWriteStep address words old =
-    quietly (card (old .core) (old .queue) (sets (old .ram) address words))
+    quietly (withRam (sets (old .ram) address words) old)
 
 -- the host sets the table block, which an open message remembers
 unfoldable pub tableMoveStep : ℕ → Card → Outcome
 tableMoveStep table old =
     quietly
-    (card (withTable table (withMessage (movedMessage (old .core .message)) (old .core)))
-    (old .queue) (old .ram))
+    (withCore (withTable table (withMessage (movedMessage (old .core .message)) (old .core))) old)
 
 -- the host writes the flags
 unfoldable pub flagsWriteStep : ℕ → Card → Outcome
 flagsWriteStep flags old =
-    quietly (card (withFlags flags (old .core)) (old .queue) (old .ram))
+    quietly (withCore (withFlags flags (old .core)) old)
 
 unfoldable pub step : Event → Card → Outcome
 step (word heard) old = wordStep heard old

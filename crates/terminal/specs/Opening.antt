@@ -13,7 +13,7 @@ use Rattle.message.specs.declared.state.OpenMessage.{OpenMessage}
 use Rattle.message.specs.declared.state.Message.the-variants.{Open}
 use Rattle.terminal.specs.declared.state.Core.{Core}
 use Rattle.bus.specs.declared.word.Word.{Word}
-use Rattle.terminal.specs.State.{Card, card, withStatus, withLast, withMessage}
+use Rattle.terminal.specs.State.{Card, withStatus, withLast, withMessage, withCore}
 use Rattle.message.specs.Asked.{askedOf}
 
 -- busy: flag 1 or, with a block, the table word's bit 15
@@ -61,4 +61,4 @@ openedAt word core ram =
     openedCore asked entry word core
 
 unfoldable pub opening : Word → Card → Card
-opening word old = card (openedAt word (old .core) (old .ram)) (old .queue) (old .ram)
+opening word old = withCore (openedAt word (old .core) (old .ram)) old

@@ -3,10 +3,13 @@ use mathlib.Core.Bool.{Bool, false}
 use mathlib.Core.List.{List}
 use Prim.Native.Nat.{ℕ, _*_, _%_}
 use Rattle.queue.specs.declared.Queue.{Queue}
+use Rattle.queue.specs.declared.Ring.{Ring}
+use Rattle.queue.specs.Queue.{queue}
 use Rattle.terminal.specs.declared.state.Shut.{Shut}
 use Rattle.message.specs.declared.state.Message.{Message}
 use Rattle.message.specs.declared.state.Message.the-variants.{Idle}
 use Rattle.terminal.specs.declared.state.Core.{Core}
+use Rattle.terminal.specs.declared.state.Held.{Held}
 
 -- everything that an event may change: the terminal, by core and queue, and card memory
 pub record Card : Type 0 where
@@ -15,7 +18,25 @@ pub record Card : Type 0 where
   pub ram : List ℕ
 
 abbrev pub card : Core → Queue → List ℕ → Card
-card core queue ram = record { core = core; queue = queue; ram = ram }
+card core queue′ ram = record { core = core; queue = queue′; ram = ram }
+
+-- the card of a run, which holds core and ring by value: the queue's places and the RAM are lent
+abbrev pub holding : Core → Ring → Held
+holding core ring = record { core = core; ring = ring }
+
+abbrev pub cardOf : Held → List ℕ → List ℕ → Card
+cardOf held places ram = card (held .core) (queue places (held .ring)) ram
+
+-- ---- the card with one part set anew
+
+abbrev pub withCore : Core → Card → Card
+withCore core old = card core (old .queue) (old .ram)
+
+abbrev pub withQueue : Queue → Card → Card
+withQueue queue′ old = card (old .core) queue′ (old .ram)
+
+abbrev pub withRam : List ℕ → Card → Card
+withRam ram old = card (old .core) (old .queue) ram
 
 -- ---- the core with one field set anew
 

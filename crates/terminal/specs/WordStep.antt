@@ -19,7 +19,7 @@ use Rattle.message.specs.declared.state.OpenMessage.{OpenMessage}
 use Rattle.message.specs.declared.state.Message.{Message}
 use Rattle.message.specs.declared.state.Message.the-variants.{Idle, Open}
 use Rattle.bus.specs.declared.word.Word.{Word}
-use Rattle.terminal.specs.State.{Card, card, withMessage}
+use Rattle.terminal.specs.State.{Card, withMessage, withCore, withRam}
 use Rattle.message.specs.Message.{further}
 use Rattle.message.specs.Asked.{asks}
 use Rattle.message.specs.Words.{ownCommand}
@@ -31,9 +31,8 @@ unfoldable pub wordDone : WordAct → Asked → OpenMessage → Word → Card �
 wordDone Ignore asked message word old = quietly old
 wordDone (Store taken) asked message word old =
     quietly
-    (card (withMessage (Open (further Data (message .second) taken message)) (old .core))
-    (old .queue)
-    (withCell (old .ram) (message .block) (message .taken) (word .value)))
+    (withCore (withMessage (Open (further Data (message .second) taken message)) (old .core))
+    (withRam (withCell (old .ram) (message .block) (message .taken) (word .value)) old))
 wordDone (Check taken) asked message word old =
     goesOn (further Data (message .second) taken message) old
 wordDone (TakeSecond value) asked message word old =

@@ -3,7 +3,7 @@ ghost use mathlib.Core.Path.{_≡_};
 ghost use mathlib.Core.Bool.{cond, true, false};
 ghost use lib.Dec.{eqb};
 ghost use Rattle.queue.specs.Queue.{queue};
-ghost use Rattle.terminal.specs.State.{card};
+ghost use Rattle.terminal.specs.State.{card, holding, cardOf};
 ghost use Rattle.terminal.specs.Closing.{
   unlessBusy,
   stateOf,
@@ -165,10 +165,9 @@ impl Core {
         time: u32,
         message: OpenMessage,
     ) -> Held
-        ensures { λ held. ⌜ card (held .core)
-            (queue (now (places .exit)) (held .ring)) (now (ram .exit))
+        ensures { λ held. ⌜ cardOf held (now (places .exit)) (now (ram .exit))
             ≡ faulted asked code time message
-            (card self (queue (now (places .entry)) ring) (now (ram .entry))) ⌝ }
+            (cardOf (holding self ring) (now (places .entry)) (now (ram .entry))) ⌝ }
     {
         let words = unless_busy(asked, message, message.taken);
         let state = state_of(code, words, message);
@@ -191,10 +190,9 @@ impl Core {
         time: u32,
         message: OpenMessage,
     ) -> Held
-        ensures { λ held. ⌜ card (held .core)
-            (queue (now (places .exit)) (held .ring)) (now (ram .exit))
+        ensures { λ held. ⌜ cardOf held (now (places .exit)) (now (ram .exit))
             ≡ ended asked time message
-            (card self (queue (now (places .entry)) ring) (now (ram .entry))) ⌝ }
+            (cardOf (holding self ring) (now (places .entry)) (now (ram .entry))) ⌝ }
     {
         let words = self.end_words(asked, message);
         let state = state_of(0, words, message);

@@ -4,7 +4,7 @@ ghost use mathlib.Core.Path.{_≡_};
 ghost use Rattle.queue.specs.Queue.{queue};
 ghost use Rattle.message.specs.declared.state.Message.the-variants.{Open};
 ghost use Rattle.message.specs.Message.{further};
-ghost use Rattle.terminal.specs.State.{card, withMessage};
+ghost use Rattle.terminal.specs.State.{card, withMessage, holding, cardOf};
 ghost use Rattle.terminal.specs.Event.{shown, seen, replied};
 ghost use Rattle.terminal.specs.WordStep.{wordStep};
 ghost use Rattle.terminal.specs.SilenceStep.{silenceDone, silenceStep};
@@ -83,10 +83,8 @@ impl Core {
         second: Second,
         taken: u16,
     ) -> Held
-        ensures { λ held. ⌜ held ≡ record {
-          core = withMessage (Open (further stage second taken message)) self;
-          ring = ring;
-        } ⌝ }
+        ensures { λ held. ⌜ held
+            ≡ holding (withMessage (Open (further stage second taken message)) self) ring ⌝ }
     {
         let next = message.further(stage, second, taken);
         Held {
@@ -119,10 +117,9 @@ impl Core {
         ram: &mut [u16],
         word: Word,
     ) -> Held
-        ensures { λ held. ⌜ card (held .core)
-            (queue (now (places .exit)) (held .ring)) (now (ram .exit))
+        ensures { λ held. ⌜ cardOf held (now (places .exit)) (now (ram .exit))
             ≡ doneBy act word
-            (card self (queue (now (places .entry)) ring) (now (ram .entry))) ⌝ }
+            (cardOf (holding self ring) (now (places .entry)) (now (ram .entry))) ⌝ }
     {
         let held = self.message;
         let Message::Open(message) = held else {
@@ -154,10 +151,9 @@ impl Core {
 
     // A word from the bus: what it does to the open message, and then what it opens.
     pub fn word(self, ring: Ring, places: &mut [u16; 256], ram: &mut [u16], word: Word) -> Held
-        ensures { λ held. ⌜ card (held .core)
-            (queue (now (places .exit)) (held .ring)) (now (ram .exit))
+        ensures { λ held. ⌜ cardOf held (now (places .exit)) (now (ram .exit))
             ≡ wordStep word
-            (card self (queue (now (places .entry)) ring) (now (ram .entry))) .card ⌝ }
+            (cardOf (holding self ring) (now (places .entry)) (now (ram .entry))) .card ⌝ }
     {
         let act = self.act_on(word);
         let opens = opens_by(act);
@@ -196,10 +192,9 @@ impl Core {
         message: OpenMessage,
         time: u32,
     ) -> Held
-        ensures { λ held. ⌜ card (held .core)
-            (queue (now (places .exit)) (held .ring)) (now (ram .exit))
+        ensures { λ held. ⌜ cardOf held (now (places .exit)) (now (ram .exit))
             ≡ silenceDone act asked message time
-            (card self (queue (now (places .entry)) ring) (now (ram .entry))) .card ⌝ }
+            (cardOf (holding self ring) (now (places .entry)) (now (ram .entry))) .card ⌝ }
     {
         match act {
             SilenceAct::Ignore => Held {
@@ -226,11 +221,10 @@ impl Core {
         line: bool,
         time: u32,
     ) -> Heard
-        ensures { λ heard. ⌜ shown (card (heard .held .core)
-            (queue (now (places .exit)) (heard .held .ring)) (now (ram .exit)))
+        ensures { λ heard. ⌜ shown (cardOf (heard .held) (now (places .exit)) (now (ram .exit)))
             (replied (heard .reply))
             ≡ seen (silenceStep line time
-            (card self (queue (now (places .entry)) ring) (now (ram .entry)))) ⌝ }
+            (cardOf (holding self ring) (now (places .entry)) (now (ram .entry)))) ⌝ }
     {
         let held = self.message;
         let Message::Open(message) = held else {

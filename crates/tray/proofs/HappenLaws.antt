@@ -1,7 +1,6 @@
 -- The laws of `specs/Happening.antt`, as the code does what a field tells: a law for each kind of
 -- field. Assumes nothing.
-use mathlib.Core.Path.{_≡_, refl, sym, ap, _∙_}
-use mathlib.Core.Bool.{Bool}
+use mathlib.Core.Path.{_≡_}
 use mathlib.Core.List.{List}
 use Prim.Native.Nat.{ℕ, _-_}
 use native.Mathlib.Omega.{arith}
@@ -17,7 +16,15 @@ use Rattle.terminal.specs.declared.state.Core.{Core}
 use Rattle.terminal.specs.declared.state.Held.{Held}
 use Rattle.terminal.specs.declared.state.Heard.{Heard}
 use Rattle.terminal.specs.declared.state.Reply.the-variants.{Silent}
-use Rattle.terminal.specs.State.{Card, card, withTable, withFlags, withMessage, coreAtSetup}
+use Rattle.terminal.specs.State.{
+  Card,
+  card,
+  withTable,
+  withFlags,
+  withMessage,
+  coreAtSetup,
+  cardOf,
+}
 use Rattle.terminal.specs.Event.{Shown, shown, seen, replied, queueWord}
 use Rattle.terminal.specs.WordStep.{wordStep}
 use Rattle.terminal.specs.SilenceStep.{silenceStep}
@@ -36,7 +43,7 @@ use Rattle.recording.specs.Bytes.{wordsAt, withWords}
 use Rattle.recording.proofs.WordsLaws.{front-of-copy}
 use Rattle.tray.specs.declared.Happened.{Happened}
 use Rattle.tray.specs.Happening.{happeningOf, happened}
-use Rattle.tray.specs.Cut.Held.{cardOf, WordsIn, WordsThere}
+use Rattle.tray.specs.Cut.Held.{WordsIn, WordsThere}
 
 abbrev quiet : Core → Ring → Happened
 quiet core ring =

@@ -16,7 +16,7 @@ use lib.Seq.{
   slice-empty,
 }
 use borrow.Author.Tests.{le-leb, lt-leb}
-use Rattle.lines.specs.Written.{Put, put}
+use Rattle.lines.specs.Written.{put}
 use Rattle.tray.specs.Cut.Window.{keptRest}
 
 module _ (start : List ℕ) (at end : ℕ) where

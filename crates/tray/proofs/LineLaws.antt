@@ -1,6 +1,6 @@
 -- The laws of the lines in `specs/Run.antt`: what each answer prints, and the last line. Assumes
 -- nothing.
-use mathlib.Core.Path.{_≡_, refl, sym, ap, _∙_}
+use mathlib.Core.Path.{_≡_, refl}
 use mathlib.Core.Bool.{Bool, true, false, cond}
 use mathlib.Core.List.{List, [], _∷_}
 use Prim.Native.Nat.{ℕ, _+_, _-_, _≤_}
@@ -8,7 +8,6 @@ use native.Mathlib.Decide.{decLe}
 use native.Mathlib.Omega.{arith}
 use lib.Dec.{eqb}
 use lib.ListN.{length, take, drop, length-take}
-use lib.Seq.{sets}
 use borrow.Author.Tests.{eqb-true, ne-eqb}
 use Rattle.card.specs.Memory.{wordAddress}
 use Rattle.card.specs.Sent.{sentRefusal, sentPart}
@@ -17,17 +16,8 @@ use Rattle.terminal.specs.declared.state.Answer.{Answer}
 use Rattle.terminal.specs.declared.state.Answer.the-variants.{Replied, QueueWord}
 use Rattle.terminal.specs.declared.state.Reply.{Reply}
 use Rattle.terminal.specs.declared.state.Reply.the-variants.{Silent, Status, Words, Last}
-use Rattle.lines.specs.Lines.{statusLine, queueLine, endLine, refusalLine}
-use Rattle.lines.specs.Written.{
-  Put,
-  put,
-  stored,
-  written,
-  lineRoom,
-  mostWords,
-  lineWritten,
-  statusWritten,
-}
+use Rattle.lines.specs.Lines.{queueLine, endLine, refusalLine}
+use Rattle.lines.specs.Written.{Put, put, stored, lineRoom, mostWords, lineWritten, statusWritten}
 use Rattle.lines.proofs.WrittenLaws.{in-room, out-of-room, few-words}
 use Rattle.tray.specs.Run.{replyLine, answerLine, lastLine}
 

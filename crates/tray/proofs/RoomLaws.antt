@@ -1,13 +1,13 @@
 -- A buffer that has `wholeRoom` for a recording is never full: one call runs the whole of it, prints
 -- its text from the first byte on, and leaves every byte behind as it was. Assumes nothing.
-use mathlib.Core.Path.{_≡_, refl, sym, ap, subst, _∙_}
+use mathlib.Core.Path.{_≡_, refl, sym, ap, _∙_}
 use mathlib.Core.Logic.{_≢_}
-use mathlib.Core.Bool.{Bool, true, false}
+use mathlib.Core.Bool.{true, false}
 use mathlib.Core.List.{List, [], _++_, append-nil}
 use Prim.Native.Nat.{ℕ, _+_, _-_, _*_, _≤_, _<_}
 use native.Mathlib.Omega.{arith}
 use lib.Dec.{eqb}
-use lib.ListN.{length, take, drop, take-append-drop}
+use lib.ListN.{length, drop, take-append-drop}
 use lib.Seq.{sets, sets-eq, length-take-le, drop-drop}
 use borrow.Author.Tests.{eqb-true}
 use Rattle.queue.specs.Queue.{oldestWord}
@@ -33,7 +33,7 @@ use Rattle.lines.proofs.WrittenLaws.{in-room, length-written, drop-written}
 use Rattle.tray.specs.declared.Stop.{Stop}
 use Rattle.tray.specs.declared.Stop.the-variants.{Going, Hungry, Full, Over}
 use Rattle.tray.specs.Happening.{happeningOf, happened}
-use Rattle.tray.specs.Run.{Tray, Whole, whole, wholeFrom, lastLine, taking, takingLine}
+use Rattle.tray.specs.Run.{Tray, Whole, whole, wholeFrom, lastLine, takingLine}
 use Rattle.tray.specs.Cut.Window.{
   Passed,
   stoppedAt,
@@ -58,7 +58,6 @@ use Rattle.tray.proofs.EndLaws.{
   over-full,
   over-going,
   going-full,
-  full-going,
 }
 
 -- ---- the line of a field, by the bytes of the field

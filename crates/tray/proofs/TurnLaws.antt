@@ -1,14 +1,11 @@
 -- The laws of `specs/Cut/Window.antt`, as the code takes one field of a window. Assumes nothing.
-use mathlib.Core.Path.{_≡_, refl, sym, ap, _∙_}
-use mathlib.Core.Bool.{Bool, true, false}
+use mathlib.Core.Path.{_≡_, sym, ap, _∙_}
+use mathlib.Core.Bool.{Bool, true}
 use mathlib.Core.List.{List}
 use Prim.Native.Nat.{ℕ, _+_, _-_, _≤_, _<_, _%_, _^_}
 use native.Mathlib.Omega.{arith}
-use lib.Dec.{ltb}
 use lib.ListN.{length}
 use borrow.Author.Tests.{lt-ltb, le-ltb}
-use Rattle.terminal.specs.declared.state.Held.{Held}
-use Rattle.terminal.specs.declared.state.Answer.{Answer}
 use Rattle.terminal.specs.Event.{shown}
 use Rattle.recording.specs.declared.Field.{Field}
 use Rattle.recording.specs.declared.Field.the-variants.{HostWrite}
@@ -21,13 +18,13 @@ use Rattle.recording.proofs.TakenWords.{taken-words-there}
 use Rattle.lines.specs.Written.{Put, put, lineRoom, lineWritten}
 use Rattle.tray.specs.declared.Happened.{Happened}
 use Rattle.tray.specs.declared.Ran.{Ran}
-use Rattle.tray.specs.declared.Run.{Run}
 use Rattle.tray.specs.declared.Stop.{Stop}
 use Rattle.tray.specs.declared.Stop.the-variants.{Going, Full, Over}
 use Rattle.tray.specs.Happening.{happeningOf, happened}
-use Rattle.tray.specs.Run.{answerLine, counted, taking, takingLine}
+use Rattle.tray.specs.Run.{answerLine, taking, takingLine}
 use Rattle.tray.specs.Cut.Window.{Passed, stopped, stoppedAt, takes, passing, turn}
-use Rattle.tray.specs.Cut.Held.{cardOf, trayOf, passedOf, WordsThere, WasRead}
+use Rattle.terminal.specs.State.{cardOf}
+use Rattle.tray.specs.Cut.Held.{passedOf, WordsThere, WasRead}
 
 -- ---- a field that is taken
 

@@ -2,12 +2,11 @@
 -- and leaves the rest to be done. Assumes nothing.
 use mathlib.Core.Path.{_≡_, refl, sym, ap, _∙_}
 use mathlib.Core.Logic.{_≢_}
-use mathlib.Core.Bool.{Bool, true, false, cond, not, _&&_}
+use mathlib.Core.Bool.{Bool, true, false, not, _&&_}
 use mathlib.Core.List.{List, [], _++_, append-assoc, append-nil}
 use Prim.Native.Nat.{ℕ, zero, suc, _+_, _-_, _≤_}
-use native.Mathlib.Nat.{le-refl}
 use native.Mathlib.Omega.{arith}
-use lib.Dec.{eqb, ltb}
+use lib.Dec.{ltb}
 use lib.ListN.{length, take, drop}
 use lib.Seq.{drop-append-le, drop-drop}
 use borrow.Author.Tests.{ltb-false}
@@ -24,18 +23,17 @@ use Rattle.recording.specs.declared.Field.the-variants.{
 }
 use Rattle.recording.specs.declared.Reading.{Reading}
 use Rattle.recording.specs.declared.Reading.the-variants.{Taken, End, Refused}
-use Rattle.recording.specs.Bytes.{wordsAt}
 use Rattle.recording.specs.Cut.Pieces.{shiftedField, shifted}
 use Rattle.recording.specs.Reading.{readAt}
 use Rattle.recording.proofs.TakenLaws.{taken-within}
 use Rattle.recording.proofs.TakenWords.{more-bytes-same-words}
 use Rattle.recording.proofs.MoreBytes.{more-bytes-same-field, more-bytes-same-refusal}
 use Rattle.recording.proofs.Shifted.{dropped-words, dropped-bytes}
-use Rattle.lines.specs.Written.{Put, lineRoom, lineWritten}
+use Rattle.lines.specs.Written.{lineRoom, lineWritten}
 use Rattle.lines.proofs.WrittenLaws.{take-written, length-written, next-written}
 use Rattle.tray.specs.declared.Stop.{Stop}
 use Rattle.tray.specs.declared.Stop.the-variants.{Going, Hungry, Full, Over}
-use Rattle.tray.specs.Happening.{Happening, event, happeningOf}
+use Rattle.tray.specs.Happening.{event, happeningOf}
 use Rattle.tray.specs.Run.{
   Tray,
   lastLine,
@@ -55,7 +53,6 @@ use Rattle.tray.specs.Cut.Window.{
   takes,
   passing,
   turn,
-  isGoing,
   turns,
   mostTurns,
   windowRun,

@@ -33,7 +33,7 @@ use Rattle.tray.specs.Happening.{happeningOf, happened}
 use Rattle.tray.specs.Run.{taking, takingLine}
 use Rattle.tray.specs.Cut.Window.{Passed, takes, passing, turn, turns}
 use Rattle.tray.specs.Cut.Held.{passedOf}
-use Rattle.tray.specs.Cut.Row.{Stored, stored, wordStored, rowFrom, rowStored, marksOn, ranAfter}
+use Rattle.tray.specs.Cut.Row.{Stored, wordStored, rowFrom, rowStored, marksOn, ranAfter}
 use Rattle.tray.proofs.LineLaws.{nothing-written}
 
 -- ---- a word that is wanted

@@ -19,8 +19,8 @@ ghost use Rattle.tray.specs.Cut.Window.{
   windowRun,
   keptRest,
 };
+ghost use Rattle.terminal.specs.State.{cardOf};
 ghost use Rattle.tray.specs.Cut.Held.{
-  cardOf,
   trayOf,
   runAtStart,
   passedOf,

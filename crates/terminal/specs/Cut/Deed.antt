@@ -22,7 +22,7 @@ use Rattle.terminal.specs.declared.machine.WordDeed.the-variants as word
 use Rattle.terminal.specs.declared.state.Core.{Core}
 use Rattle.terminal.specs.declared.state.Reply.{Reply}
 use Rattle.terminal.specs.declared.state.Reply.the-variants.{Silent}
-use Rattle.terminal.specs.State.{Card, card, withMessage}
+use Rattle.terminal.specs.State.{Card, withMessage, withCore, withRam}
 use Rattle.terminal.specs.Opening.{opening}
 use Rattle.terminal.specs.Closing.{faulted, replyOf}
 
@@ -62,12 +62,10 @@ opensBy word-acts.Drop = true
 unfoldable pub wordDeedDone : WordDeed → OpenMessage → Word → Card → Card
 wordDeedDone word-deeds.Rest message word old = old
 wordDeedDone (word-deeds.GoOn stage second taken) message word old =
-    card (withMessage (Open (further stage second taken message)) (old .core))
-    (old .queue) (old .ram)
+    withCore (withMessage (Open (further stage second taken message)) (old .core)) old
 wordDeedDone (word-deeds.Store taken) message word old =
-    card (withMessage (Open (further Data (message .second) taken message)) (old .core))
-    (old .queue)
-    (withCell (old .ram) (message .block) (message .taken) (word .value))
+    withCore (withMessage (Open (further Data (message .second) taken message)) (old .core))
+    (withRam (withCell (old .ram) (message .block) (message .taken) (word .value)) old)
 wordDeedDone (word-deeds.Fault code) message word old =
     faulted (asks message) code (word .time) message old
 

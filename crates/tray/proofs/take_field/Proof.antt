@@ -1,6 +1,6 @@
 -- `tray::take_field` meets its contract. Assumes nothing.
 use borrow.Author.Needs.{needs}
-use Rattle.tray.proofs.TurnLaws.{field-taken, was-read}
+use Rattle.tray.proofs.TurnLaws.{field-taken}
 use Rattle.tray.proofs.take_field.Statement.{statement}
 use Rattle.tray.proofs.take_field.Tie as tie
 

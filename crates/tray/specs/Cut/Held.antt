@@ -3,11 +3,8 @@ use mathlib.Core.Path.{_≡_}
 use mathlib.Core.Bool.{false}
 use mathlib.Core.List.{List}
 use Prim.Native.Nat.{ℕ, _*_, _≤_}
-use Rattle.queue.specs.Queue.{queue, ringOf}
-use Rattle.terminal.specs.declared.state.Held.{Held}
-use Rattle.terminal.specs.declared.state.Answer.{Answer}
-use Rattle.terminal.specs.State.{Card, card, coreAtSetup}
-use Rattle.terminal.specs.Event.{Shown, shown}
+use Rattle.queue.specs.Queue.{ringOf}
+use Rattle.terminal.specs.State.{card, cardOf, coreAtSetup}
 use Rattle.recording.specs.declared.Field.{Field}
 use Rattle.recording.specs.declared.Field.the-variants.{HostWrite}
 use Rattle.recording.specs.Bytes.{bytesLeft}
@@ -17,9 +14,6 @@ use Rattle.tray.specs.Run.{Tray}
 use Rattle.tray.specs.Cut.Window.{Passed}
 
 -- the queue's places and the RAM are lent
-abbrev pub cardOf : Held → List ℕ → List ℕ → Card
-cardOf held places ram = card (held .core) (queue places (held .ring)) ram
-
 abbrev pub trayOf : Run → List ℕ → List ℕ → Tray
 trayOf run places ram =
     record {
