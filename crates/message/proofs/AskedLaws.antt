@@ -1,34 +1,147 @@
--- The rows of `specs/Asked.antt` that read fields of the command. Assumes nothing.
+-- The rows of `specs/Asked.antt`, as the code makes them: a row that asks for nothing but its block,
+-- with some columns set anew. Assumes nothing.
 use mathlib.Core.Path.{_≡_}
-use mathlib.Core.Bool.{true, false, cond}
+use mathlib.Core.Bool.{Bool, true, false, cond}
 use Prim.Native.Nat.{ℕ, _+_}
 use lib.Dec.{eqb}
 use Rattle.bus.specs.declared.kind.Kind.{Kind}
-use Rattle.bus.specs.declared.kind.Kind.the-variants.{Receive, Transmit, ModeSend}
+use Rattle.bus.specs.declared.kind.Kind.the-variants.{
+  Receive,
+  Transmit,
+  ModeStatus,
+  ModeLast,
+  ModeSwitch,
+  ModeSend,
+  ModeTake,
+  ModeReply,
+  Illegal,
+}
 use Rattle.bus.specs.Command.{subaddressOf, modeCodeOf, wordsOf}
+use Rattle.bus.specs.Kind.{kindOf}
 use Rattle.message.specs.declared.asked.Asked.{Asked}
-use Rattle.message.specs.Asked.{row, askedBy}
+use Rattle.message.specs.Asked.{
+  legal,
+  Chain,
+  chain,
+  noBlock,
+  noWords,
+  serves,
+  keepsNone,
+  noAct,
+  row,
+  askedBy,
+  askedOf,
+}
+
+-- nothing but the block
+abbrev bare : Chain → Asked
+bare chained = row legal chained noWords serves keepsNone noAct
+
+pub block-taken-away : (asked : Asked) → asked ≡ bare (chain 31)
+    → record {
+      illegal = asked .illegal;
+      block = false;
+      cell = asked .cell;
+      takes = asked .takes;
+      sends = asked .sends;
+      receive = asked .receive;
+      yields = asked .yields;
+      fresh = asked .fresh;
+      last = asked .last;
+      switch = asked .switch;
+    } ≡ bare noBlock
+block-taken-away asked is = rw is
+
+-- the columns that the code sets
+abbrev with : Asked → Bool → ℕ → ℕ → Bool → Bool → Bool → Bool → ℕ → Asked
+with asked illegal takes sends receive yields fresh last switch =
+    record {
+      illegal = illegal;
+      block = asked .block;
+      cell = asked .cell;
+      takes = takes;
+      sends = sends;
+      receive = receive;
+      yields = yields;
+      fresh = fresh;
+      last = last;
+      switch = switch;
+    }
 
 module _ (asked : Asked) (kind : Kind) (command subaddress words code cell : ℕ) where
-  pub asked-receive : kind ≡ Receive
+  pub row-receive : kind ≡ Receive
       → subaddress ≡ subaddressOf command → words ≡ wordsOf command
-      → asked ≡ row true subaddress words 0 true true true false 0
-      → asked ≡ askedBy kind command
+      → asked ≡ bare (chain subaddress)
+      → with asked (asked .illegal) words (asked .sends) true true (asked .fresh) (asked .last)
+      (asked .switch) ≡ askedBy kind command
   unfolding askedBy
-  asked-receive is is-subaddress is-words same = rw (is, ← is-subaddress, ← is-words) same
+  row-receive is is-subaddress is-words same =
+      rw (is, ← is-subaddress, ← is-words, same)
 
-  pub asked-transmit : kind ≡ Transmit
+  pub row-transmit : kind ≡ Transmit
       → subaddress ≡ subaddressOf command → words ≡ wordsOf command
-      → asked ≡ row true (32 + subaddress) 0 words true false true false 0
-      → asked ≡ askedBy kind command
+      → asked ≡ bare (chain (32 + subaddress))
+      → with asked (asked .illegal) (asked .takes) words (asked .receive) true (asked .fresh)
+      (asked .last) (asked .switch) ≡ askedBy kind command
   unfolding askedBy
-  asked-transmit is is-subaddress is-words same = rw (is, ← is-subaddress, ← is-words) same
+  row-transmit is is-subaddress is-words same =
+      rw (is, ← is-subaddress, ← is-words, same)
 
-  pub asked-send : kind ≡ ModeSend
-      → code ≡ modeCodeOf command → cell ≡ cond (eqb code 16) 32 63
-      → asked ≡ row true cell 0 1 false false true false 0
-      → asked ≡ askedBy kind command
+  pub row-status : kind ≡ ModeStatus → asked ≡ bare noBlock
+      → with asked (asked .illegal) (asked .takes) (asked .sends) (asked .receive)
+      (asked .yields) false (asked .last) (asked .switch) ≡ askedBy kind command
   unfolding askedBy
-  asked-send is is-code is-cell same = rw (is, ← is-code, ← is-cell) same
+  row-status is same = rw (is, same)
 
-pub ruleset rows = (asked-receive, asked-transmit, asked-send)
+  pub row-last : kind ≡ ModeLast → asked ≡ bare noBlock
+      → with asked (asked .illegal) (asked .takes) (asked .sends) (asked .receive)
+      (asked .yields) false true (asked .switch) ≡ askedBy kind command
+  unfolding askedBy
+  row-last is same = rw (is, same)
+
+  pub row-switch : kind ≡ ModeSwitch → code ≡ modeCodeOf command → asked ≡ bare noBlock
+      → with asked (asked .illegal) (asked .takes) (asked .sends) (asked .receive)
+      (asked .yields) (asked .fresh) (asked .last) code ≡ askedBy kind command
+  unfolding askedBy
+  row-switch is is-code same = rw (is, ← is-code, same)
+
+  pub row-send : kind ≡ ModeSend → code ≡ modeCodeOf command → cell ≡ cond (eqb code 16) 32 63
+      → asked ≡ bare (chain cell)
+      → with asked (asked .illegal) (asked .takes) 1 (asked .receive) (asked .yields)
+      (asked .fresh) (asked .last) (asked .switch) ≡ askedBy kind command
+  unfolding askedBy
+  row-send is is-code is-cell same = rw (is, ← is-code, ← is-cell, same)
+
+  pub row-take : kind ≡ ModeTake → asked ≡ bare (chain 31)
+      → with asked (asked .illegal) 1 (asked .sends) (asked .receive) (asked .yields)
+      (asked .fresh) (asked .last) (asked .switch) ≡ askedBy kind command
+  unfolding askedBy
+  row-take is same = rw (is, same)
+
+  pub row-reply : kind ≡ ModeReply → code ≡ modeCodeOf command → asked ≡ bare (chain 31)
+      → with asked (asked .illegal) (asked .takes) (asked .sends) (asked .receive)
+      (asked .yields) (asked .fresh) (asked .last) code ≡ askedBy kind command
+  unfolding askedBy
+  row-reply is is-code same = rw (is, ← is-code, same)
+
+  pub row-illegal : kind ≡ Illegal → asked ≡ bare noBlock
+      → with asked true (asked .takes) (asked .sends) (asked .receive) (asked .yields)
+      (asked .fresh) (asked .last) (asked .switch) ≡ askedBy kind command
+  unfolding askedBy
+  row-illegal is same = rw (is, same)
+
+  -- of the kind that the command has
+  pub asked-is : kind ≡ kindOf command → asked ≡ askedBy kind command → asked ≡ askedOf command
+  asked-is is same = rw (← is) same
+
+pub ruleset rows = (
+  row-receive,
+  row-transmit,
+  row-status,
+  row-last,
+  row-switch,
+  row-send,
+  row-take,
+  row-reply,
+  row-illegal,
+)

@@ -1,5 +1,5 @@
--- What holds of every event and of every run of the terminal. Read `FitLaws` first: a fit state stays
--- fit; then `OneBlock`.
+-- What holds of every event and of every run of the terminal. Read `Theorems`: what is proved.
+--     Theorems      the statements, by name
 --     FitParts      what refusal 4 asks of a state, part by part
 --     FitMessage    an open message is fit when it opens, and further on
 --     FitChanges    going on, opening and closing keep the card fit
@@ -13,6 +13,7 @@
 --     ClosesLaws    an open message closes, is dropped, or stays open as it was opened
 --     ReplyLaws     the words that a reply sends are those in memory at the silence
 --     ChainLaws     a closing takes its chain on, and the next opening takes the block named
+mod Theorems
 pub mod FitParts
 pub mod FitMessage
 pub mod FitChanges
