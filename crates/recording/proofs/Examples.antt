@@ -228,7 +228,7 @@ a-second-setup-though-its-station-is-31 :
 unfolding readAt lengthFits fieldAt
 a-second-setup-though-its-station-is-31 = refl
 
--- 2: the station, before the flags; (f) of document 01
+-- 2: the station, before table block and flags; (f) of document 01
 station-30-is-taken :
     readAt (0x01 ∷ 0x00 ∷ 0x03 ∷ 0x1E ∷ 0x01 ∷ 0x00 ∷ []) 0 false
     ≡ Taken (Setup 30 1 0) 6
@@ -246,6 +246,27 @@ station-31-with-flags-64 :
     ≡ Refused 2 0
 unfolding readAt lengthFits fieldAt
 station-31-with-flags-64 = refl
+
+station-31-with-table-block-300 :
+    readAt (0x01 ∷ 0x00 ∷ 0x03 ∷ 0x1F ∷ 300 ∷ 0x00 ∷ []) 0 false
+    ≡ Refused 2 0
+unfolding readAt lengthFits fieldAt
+station-31-with-table-block-300 = refl
+
+-- 3: the table block, before the flags; no byte is 300, and no test asks for bytes
+table-block-300-with-flags-64 :
+    readAt (0x01 ∷ 0x00 ∷ 0x03 ∷ 0x1E ∷ 300 ∷ 0x40 ∷ []) 0 false
+    ≡ Refused 3 0
+unfolding readAt lengthFits fieldAt
+table-block-300-with-flags-64 = refl
+
+table-block-255-is-taken : readAt (0x06 ∷ 0x00 ∷ 0x01 ∷ 0xFF ∷ []) 0 true ≡ Taken (Table 255) 4
+unfolding readAt lengthFits fieldAt
+table-block-255-is-taken = refl
+
+table-block-256-is-refused : readAt (0x06 ∷ 0x00 ∷ 0x01 ∷ 256 ∷ []) 0 true ≡ Refused 3 0
+unfolding readAt lengthFits fieldAt
+table-block-256-is-refused = refl
 
 -- 8: spare bits, a line above 1, cells past 16,383; (g) of document 01
 setup-flags-64 : readAt (0x01 ∷ 0x00 ∷ 0x03 ∷ 0x05 ∷ 0x01 ∷ 0x40 ∷ []) 0 false ≡ Refused 8 0

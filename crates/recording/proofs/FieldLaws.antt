@@ -139,20 +139,21 @@ past-the-card address count many = lt-ltb 16384 (address + count) (omega arith)
 
 pub ruleset refusals = (refusal-of-known, past-the-card)
 
--- what holds of 0, 2 and 8 holds of every field's number
-pub by-refusal : (Claim : ℕ → Type 0) → Claim 0 → Claim 2 → Claim 8
+-- what holds of 0, 2, 3 and 8 holds of every field's number
+pub by-refusal : (Claim : ℕ → Type 0) → Claim 0 → Claim 2 → Claim 3 → Claim 8
     → (field : Field) → Claim (valueRefusal field)
-by-refusal Claim none two eight = number
+by-refusal Claim none two three eight = number
   where
     by-limit : (test : Bool) → Claim (cond test 8 0)
     by-limit test = by-test Claim test (λ _. eight) (λ _. none)
 
     number : (field : Field) → Claim (valueRefusal field)
     number (Setup station table flags) =
-        by-test Claim (ltb 30 station) (λ _. two) (λ _. by-limit (ltb 63 flags))
+        by-test Claim (ltb 30 station) (λ _. two) (λ _.
+        by-test Claim (ltb 255 table) (λ _. three) (λ _. by-limit (ltb 63 flags)))
     number (Word marks value time) = by-limit (ltb 15 marks)
     number (Silence line time) = by-limit (ltb 1 line)
     number QueueRead = none
     number (HostWrite address first count) = by-limit (ltb 16384 (address + count))
-    number (Table table) = none
+    number (Table table) = by-test Claim (ltb 255 table) (λ _. three) (λ _. none)
     number (Flags flags) = by-limit (ltb 63 flags)

@@ -1,9 +1,9 @@
--- Every field that is taken is in order: what it holds is what the tables of document 01 allow
--- (`taken-in-order`), and the rest fits its width (`taken-fits-widths`). Assumes nothing.
+-- Every field that is taken is in order: what it holds is what the tables of document 01 allow,
+-- `taken-in-order`. Assumes nothing.
 use mathlib.Core.Path.{_≡_, refl}
 use mathlib.Core.Bool.{Bool, true, false, cond}
 use mathlib.Core.List.{List}
-use Prim.Native.Nat.{ℕ, suc, _+_, _-_, _*_, _/_, _≤_, _<_}
+use Prim.Native.Nat.{ℕ, suc, _+_, _-_, _*_, _/_, _≤_}
 use native.Mathlib.Omega.{arith}
 use lib.Dec.{eqb, ltb}
 use borrow.Author.Tests.{eqb-true, ltb-false}
@@ -18,7 +18,7 @@ use Rattle.recording.specs.declared.Field.the-variants.{
   Flags,
 }
 use Rattle.recording.specs.declared.Reading.the-variants.{Taken}
-use Rattle.recording.specs.Bytes.{byteAt, wordAt, timeAt}
+use Rattle.recording.specs.Bytes.{byteAt, wordAt}
 use Rattle.recording.specs.Field.{lengthFits, fieldAt, valueRefusal}
 use Rattle.recording.specs.Reading.{readAt}
 use Rattle.recording.proofs.Choices.{by-test}
@@ -27,8 +27,9 @@ use Rattle.recording.proofs.TakenLaws.{TakenAt, taken-tells}
 
 -- ---- what it is to be in order
 
-pub record SetupInOrder (station flags : ℕ) : Type 0 where
+pub record SetupInOrder (station table flags : ℕ) : Type 0 where
   pub station-at-most : station ≤ 30
+  pub table-at-most : table ≤ 255
   pub flags-at-most : flags ≤ 63
 
 -- the words stand behind tag, length and address, and reach to the end of the field
@@ -41,12 +42,12 @@ pub record WriteInOrder (place next address first count : ℕ) : Type 0 where
 
 -- a field that stands from `place` to `next`
 abbrev pub InOrder : ℕ → ℕ → Field → Type 0
-InOrder place next (Setup station table flags) = SetupInOrder station flags
+InOrder place next (Setup station table flags) = SetupInOrder station table flags
 InOrder place next (Word marks value time) = marks ≤ 15
 InOrder place next (Silence line time) = line ≤ 1
 InOrder place next QueueRead = Unit
 InOrder place next (HostWrite address first count) = WriteInOrder place next address first count
-InOrder place next (Table table) = Unit
+InOrder place next (Table table) = table ≤ 255
 InOrder place next (Flags flags) = flags ≤ 63
 
 -- ---- a field that is not refused is in order
@@ -68,12 +69,15 @@ module _ (limit value less rest : ℕ) where
       passed false is = is
 
 setup-in-order : (station table flags : ℕ)
-    → valueRefusal (Setup station table flags) ≡ 0 → SetupInOrder station flags
+    → valueRefusal (Setup station table flags) ≡ 0 → SetupInOrder station table flags
 setup-in-order station table flags in-order =
     let by-flags : ℕ = cond (ltb 63 flags) 8 0 in
+    let by-table : ℕ = cond (ltb 255 table) 3 by-flags in
+    let table-in-order : by-table ≡ 0 = further 30 station 1 by-table in-order in
     record {
-      station-at-most = within 30 station 1 by-flags in-order;
-      flags-at-most = within 63 flags 7 0 (further 30 station 1 by-flags in-order);
+      station-at-most = within 30 station 1 by-table in-order;
+      table-at-most = within 255 table 2 by-flags table-in-order;
+      flags-at-most = within 63 flags 7 0 (further 255 table 2 by-flags table-in-order);
     }
 
 -- the words of a host write fill the rest of its value
@@ -102,7 +106,7 @@ module _ (bytes : List ℕ) (place size : ℕ) where
       by-test Claim (eqb tag 5)
       (λ is. write-in-order place size (wordAt bytes (place + 3))
       (size-of-write tag size fits (eqb-true tag 5 is))) (λ _.
-      by-test Claim (eqb tag 6) (λ _ _. tt) (λ _. within 63 front 7 0))))))
+      by-test Claim (eqb tag 6) (λ _. within 255 front 2 0) (λ _. within 63 front 7 0))))))
     where
       Claim : Field → Type 0
       Claim field = valueRefusal field ≡ 0 → InOrder place (place + 3 + size) field
@@ -122,47 +126,3 @@ taken-in-order bytes place begun {field} {next} is =
     rw (told .is-next, told .is-field)
     (field-in-order bytes place size tag (told .there .fits)
     (rw (told .is-field) at (told .in-order)))
-
--- ---- what no test of the reader bounds, the bytes do
-
--- the elements of the list are bytes
-abbrev pub AreBytes : List ℕ → Type 0
-AreBytes bytes = (place : ℕ) → byteAt bytes place < 256
-
-abbrev pub FitsWidths : Field → Type 0
-FitsWidths (Setup station table flags) = table ≤ 255
-FitsWidths (Word marks value time) = (value ≤ 65535) × (time ≤ 4294967295)
-FitsWidths (Silence line time) = time ≤ 4294967295
-FitsWidths QueueRead = Unit
-FitsWidths (HostWrite address first count) = address ≤ 65535
-FitsWidths (Table table) = table ≤ 255
-FitsWidths (Flags flags) = flags ≤ 255
-
-module _ (bytes : List ℕ) (are : AreBytes bytes) where
-  byte-at-most : (place : ℕ) → byteAt bytes place ≤ 255
-  byte-at-most place = omega (arith, are place)
-
-  word-at-most : (place : ℕ) → wordAt bytes place ≤ 65535
-  word-at-most place = omega (arith, are place, are (place + 1))
-
-  time-at-most : (place : ℕ) → timeAt bytes place ≤ 4294967295
-  time-at-most place =
-      omega (arith, are place, are (place + 1), are (place + 2), are (place + 2 + 1))
-
-  field-fits-widths : (tag value size : ℕ) → FitsWidths (fieldAt bytes tag value size)
-  unfolding fieldAt
-  field-fits-widths tag value size =
-      by-test FitsWidths (eqb tag 1) (λ _. byte-at-most (value + 1)) (λ _.
-      by-test FitsWidths (eqb tag 2)
-      (λ _. (word-at-most (value + 1), time-at-most (value + 3))) (λ _.
-      by-test FitsWidths (eqb tag 3) (λ _. time-at-most (value + 1)) (λ _.
-      by-test FitsWidths (eqb tag 4) (λ _. tt) (λ _.
-      by-test FitsWidths (eqb tag 5) (λ _. word-at-most value) (λ _.
-      by-test FitsWidths (eqb tag 6) (λ _. byte-at-most value) (λ _.
-      byte-at-most value))))))
-
-  pub taken-fits-widths : (place : ℕ) (begun : Bool) {field : Field} {next : ℕ}
-      → readAt bytes place begun ≡ Taken field next → FitsWidths field
-  taken-fits-widths place begun is =
-      rw (taken-tells bytes place begun is .is-field)
-      (field-fits-widths (byteAt bytes place) (place + 3) (wordAt bytes (place + 1)))

@@ -209,4 +209,4 @@ settled-by-133 bytes place begun enough =
     field = fieldAt bytes tag (place + 3) size
 
     not-5 : (other : Field) → not (eqb (valueRefusal other) 5) ≡ true
-    not-5 = by-refusal (λ number. not (eqb number 5) ≡ true) refl refl refl
+    not-5 = by-refusal (λ number. not (eqb number 5) ≡ true) refl refl refl refl

@@ -31,7 +31,8 @@ use Rattle.recording.proofs.FieldLaws.{by-refusal, size-at-most}
 -- the numbers that the reader gives
 abbrev pub isReaderNumber : ℕ → Bool
 isReaderNumber number =
-    eqb number 2 || eqb number 5 || eqb number 6 || eqb number 7 || eqb number 8 || eqb number 9
+    eqb number 2 || eqb number 3 || eqb number 5 || eqb number 6 || eqb number 7 || eqb number 8
+    || eqb number 9
 
 -- every test of the reader was passed
 pub record TakenAt (bytes : List ℕ) (place : ℕ) (begun : Bool) (field : Field) (next : ℕ) :
@@ -104,7 +105,7 @@ reading-tells bytes place begun =
         → isReaderNumber (valueRefusal other) ≡ true
     numbered =
         by-refusal (λ number. (number ≡ 0 → ⊥) → isReaderNumber number ≡ true)
-        (λ some. absurd (some refl)) (λ _. refl) (λ _. refl)
+        (λ some. absurd (some refl)) (λ _. refl) (λ _. refl) (λ _. refl)
 
 -- ---- where a reading ends, and whom it names
 

@@ -64,15 +64,16 @@ pub record ValueThere (bytes : List ℕ) (tag value size : ℕ) : Type 0 where
   pub inside : value + size ≤ length bytes
 
 -- the number by which a field is refused for what it holds, and 0 where it is in order: 2, a
--- station above 30; then 3, a table block above 255, which one byte cannot spell; then 8, spare
--- bits set, a line above 1, cells past 16,383
+-- station above 30; then 3, a table block above 255; then 8, spare bits set, a line above 1, cells
+-- past 16,383
 abbrev pub valueRefusal : Field → ℕ
-valueRefusal (Setup station table flags) = cond (ltb 30 station) 2 (cond (ltb 63 flags) 8 0)
+valueRefusal (Setup station table flags) =
+    cond (ltb 30 station) 2 (cond (ltb 255 table) 3 (cond (ltb 63 flags) 8 0))
 valueRefusal (Word marks value time) = cond (ltb 15 marks) 8 0
 valueRefusal (Silence line time) = cond (ltb 1 line) 8 0
 valueRefusal QueueRead = 0
 valueRefusal (HostWrite address first count) = cond (ltb 16384 (address + count)) 8 0
-valueRefusal (Table table) = 0
+valueRefusal (Table table) = cond (ltb 255 table) 3 0
 valueRefusal (Flags flags) = cond (ltb 63 flags) 8 0
 
 -- the field of tag 01

@@ -135,19 +135,22 @@ fn length_fits(tag: u8, size: usize) -> bool
 }
 
 impl Field {
-    // Refusals 2 and 8 by what the field holds, and 0 for none. There is no 3: one byte names no
-    // block above 255.
+    // Refusals 2, 3 and 8 by what the field holds, in that order, and 0 for none. One byte cannot
+    // spell a table block above 255 today; the test for 3 stands where document 01's order has it.
     fn refusal(self) -> u8
         ensures { λ number. ⌜ number ≡ valueRefusal self ⌝ }
     {
         match self {
             Field::Setup {
                 station,
-                table: _,
+                table,
                 flags,
             } => {
                 if station > 30 {
                     return 2;
+                }
+                if table > 255 {
+                    return 3;
                 }
                 if flags > 63 {
                     return 8;
@@ -185,7 +188,12 @@ impl Field {
                 }
                 0
             }
-            Field::Table { table: _ } => 0,
+            Field::Table { table } => {
+                if table > 255 {
+                    return 3;
+                }
+                0
+            }
             Field::Flags { flags } => {
                 if flags > 63 {
                     return 8;

@@ -1,25 +1,20 @@
--- A run by the library's actions at work: document 01's recording, and what is refused over memory
--- of another length, from a state that is not fit, and of numbers that are no bytes; with less
--- asked the theorem is false. Assumes nothing.
+-- A run by the library's actions at work: document 01's recording, what reader and actions refuse
+-- alike, and what is refused over memory of another length and from a state that is not fit; with
+-- less asked the theorem is false. Assumes nothing.
 use mathlib.Core.Path.{_≡_, refl}
-use mathlib.Core.Bool.{Bool, true, _&&_}
+use mathlib.Core.Bool.{true}
 use mathlib.Core.List.{List, [], _∷_, _++_}
-use Prim.Native.Nat.{ℕ, zero, suc, _<_}
+use Prim.Native.Nat.{ℕ, zero, suc}
 use native.Mathlib.Omega.{arith}
-use lib.Dec.{ltb}
-use lib.ListN.{length, drop, replicate}
-use borrow.Author.Tests.{ltb-true}
-use Rattle.rules.proofs.Halves.{first-of-both, second-of-both}
+use lib.ListN.{drop, replicate}
 use Rattle.card.specs.Memory.{cardWords}
 use Rattle.queue.specs.Queue.{emptyQueue}
 use Rattle.terminal.specs.State.{card, coreAtSetup}
 use Rattle.actions.specs.Actions.{After}
 use Rattle.recording.specs.declared.Reading.{Reading}
 use Rattle.recording.specs.declared.Reading.the-variants.{Taken, End, Refused}
-use Rattle.recording.specs.Bytes.{byteAt}
 use Rattle.recording.specs.Field.{lengthFits, fieldAt}
 use Rattle.recording.specs.Reading.{readAt}
-use Rattle.recording.proofs.InOrder.{AreBytes}
 use Rattle.runs.proofs.Telling.{runs}
 use Rattle.tray.specs.Run.{Tray, trayOver, trayAtStart, Whole, wholeFrom}
 use Rattle.tray.specs.ByActions.{
@@ -53,10 +48,6 @@ behind =
 -- document 01's recording
 abbrev recording : List ℕ
 recording = setup ++ behind
-
--- a table field that holds 300, which no byte can spell
-abbrev noBytes : List ℕ
-noBytes = setup ++ 0x06 ∷ 0x00 ∷ 0x01 ∷ 300 ∷ []
 
 -- ---- the numbers that the actions of its fields give
 
@@ -99,22 +90,11 @@ the-recording-is-taken :
 unfolding all
 the-recording-is-taken = refl
 
-abbrev allBytes : List ℕ → Bool
-allBytes [] = true
-allBytes (byte ∷ bytes) = ltb byte 256 && allBytes bytes
-
-are-bytes : (bytes : List ℕ) → allBytes bytes ≡ true → (place : ℕ) → byteAt bytes place < 256
-are-bytes [] all-are place = omega arith
-are-bytes (byte ∷ bytes) all-are zero =
-    ltb-true byte 256 (first-of-both (ltb byte 256) (allBytes bytes) all-are)
-are-bytes (byte ∷ bytes) all-are (suc place) =
-    are-bytes bytes (second-of-both (ltb byte 256) (allBytes bytes) all-are) place
-
 -- the theorem, over memory of zeros
 the-recording-is-by-actions : ByActions trayAtStart recording (wholeFrom trayAtStart recording)
 unfolding all
 the-recording-is-by-actions =
-    run-by-actions (replicate cardWords 0) recording refl (are-bytes recording refl)
+    run-by-actions (replicate cardWords 0) recording refl
 
 -- ---- fields that the reader refuses for what they hold
 
@@ -154,6 +134,17 @@ two-words-there-get-8-from-both :
 unfolding all
 two-words-there-get-8-from-both = refl
 
+-- no byte spells 300, but reader and actions refuse any number alike
+table-block-300-gets-3-from-both :
+    bothNumbers (0x06 ∷ 0x00 ∷ 0x01 ∷ 300 ∷ []) (stationed 5) ≡ 3 ∷ 3 ∷ []
+unfolding all
+table-block-300-gets-3-from-both = refl
+
+the-table-block-comes-before-the-flags :
+    bothNumbers (0x01 ∷ 0x00 ∷ 0x03 ∷ 30 ∷ 300 ∷ 64 ∷ []) trayAtStart ≡ 3 ∷ 3 ∷ []
+unfolding all
+the-table-block-comes-before-the-flags = refl
+
 -- ---- with less asked
 
 -- over one word of memory what needs memory is refused by 1: host writes, words and the silence
@@ -169,13 +160,11 @@ unfolding all
 over-a-word-too-many-it-is-refused = refl
 
 not-over-any-memory :
-    ((ram bytes : List ℕ) → AreBytes bytes
-    → ByActions (trayOver ram) bytes (wholeFrom (trayOver ram) bytes))
-    → ⊥
+    ((ram bytes : List ℕ) → ByActions (trayOver ram) bytes (wholeFrom (trayOver ram) bytes)) → ⊥
 unfolding all
 not-over-any-memory claim =
     let none : _≡_ {A = ℕ} 1 0 =
-    none-refused (claim (0 ∷ []) recording (are-bytes recording refl)) 2 .1 .0 in
+    none-refused (claim (0 ∷ []) recording) 2 .1 .0 in
     omega arith
 
 -- from station 31 everything is refused by 4
@@ -183,18 +172,3 @@ from-station-31-it-is-refused :
     numbers 9 (stationed 31) behind ≡ 4 ∷ 4 ∷ 4 ∷ 4 ∷ 4 ∷ 4 ∷ 4 ∷ []
 unfolding all
 from-station-31-it-is-refused = refl
-
--- the reader has no test for table block 300, and the action refuses it by 3
-table-block-300-is-refused : numbers 3 trayAtStart noBytes ≡ 0 ∷ 3 ∷ []
-unfolding all
-table-block-300-is-refused = refl
-
-not-of-any-numbers :
-    ((ram bytes : List ℕ) → length ram ≡ cardWords
-    → ByActions (trayOver ram) bytes (wholeFrom (trayOver ram) bytes))
-    → ⊥
-unfolding all
-not-of-any-numbers claim =
-    let none : _≡_ {A = ℕ} 3 0 =
-    none-refused (claim (replicate cardWords 0) noBytes refl) 2 .1 .0 in
-    omega arith

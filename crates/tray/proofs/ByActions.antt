@@ -1,9 +1,7 @@
 -- A run and the library cannot part. Of every recording, over every memory of 16,384 words, a run
 -- is what the library's actions make, `run-by-actions`, and they make nothing else,
 -- `actions-make-the-run`. So no field that is taken meets a refusal of its action, and one that is
--- refused for what it holds meets the same. The elements of the list have to be bytes: for a table
--- block above 255, which no byte can spell, the reader has no test, and the actions refuse it by 3.
--- Assumes nothing.
+-- refused for what it holds meets the same. Assumes nothing.
 use mathlib.Core.Path.{_≡_, refl, sym, ap, _∙_}
 use mathlib.Core.Bool.{Bool, true, false, _&&_}
 use mathlib.Core.List.{List}
@@ -49,14 +47,7 @@ use Rattle.recording.specs.Field.{isSetup}
 use Rattle.recording.specs.Reading.{readAt}
 use Rattle.recording.proofs.WordsLaws.{length-words-at}
 use Rattle.recording.proofs.TakenLaws.{taken-within}
-use Rattle.recording.proofs.InOrder.{
-  InOrder,
-  WriteInOrder,
-  taken-in-order,
-  AreBytes,
-  FitsWidths,
-  taken-fits-widths,
-}
+use Rattle.recording.proofs.InOrder.{InOrder, WriteInOrder, taken-in-order}
 use Rattle.tray.specs.Happening.{happeningOf, happened}
 use Rattle.tray.specs.Run.{
   Tray,
@@ -74,7 +65,6 @@ use Rattle.tray.specs.Sound.{SoundTray}
 use Rattle.tray.specs.ByActions.{actionOf, trayWith, ByActions, acts, ends, refuses}
 use Rattle.tray.proofs.PrintedLaws.{whole-by-reading}
 use Rattle.tray.proofs.SoundLaws.{start-is-sound, begun-before, taking-is-sound}
-use Rattle.tray.proofs.SoundPieces.{bytes-of-drop}
 use Rattle.tray.proofs.RefusedAlike.{refused-alike}
 
 -- ---- an action that refuses nothing
@@ -104,89 +94,87 @@ words-in-order bytes place next address first count in-order =
     )
 
 module _ (bytes : List ℕ) (place next : ℕ) (old : Card) (long : length (old .ram) ≡ cardWords) where
-  action-taken : (field : Field) → InOrder place next field → FitsWidths field
+  action-taken : (field : Field) → InOrder place next field
       → (isSetup field ≡ false → fitCard old ≡ true)
       → actionOf bytes field old ≡ unrefused (happened (happeningOf bytes field) old)
   unfolding actionOf happened happeningOf step queueReadStep tableMoveStep flagsWriteStep
       setupAction wordAction silenceAction hostWriteAction readQueueAction moveTableAction
       setFlagsAction withoutMemory terminalAtSetup
-  action-taken (Setup station table flags) in-order fits fit =
+  action-taken (Setup station table flags) in-order fit =
       rw (
         le-leb station 30 (in-order .station-at-most),
-        le-leb table 255 fits,
+        le-leb table 255 (in-order .table-at-most),
         le-leb flags 63 (in-order .flags-at-most),
       )
-  action-taken (Word marks value time) in-order fits fit =
+  action-taken (Word marks value time) in-order fit =
       memory-taken _ old (leb marks 15) long (fit refl) (le-leb marks 15 in-order)
-  action-taken (Silence line time) in-order fits fit =
+  action-taken (Silence line time) in-order fit =
       memory-taken _ old (leb line 1) long (fit refl) (le-leb line 1 in-order)
-  action-taken QueueRead in-order fits fit = rw (fit refl)
-  action-taken (HostWrite address first count) in-order fits fit =
+  action-taken QueueRead in-order fit = rw (fit refl)
+  action-taken (HostWrite address first count) in-order fit =
       memory-taken _ old _ long (fit refl)
       (words-in-order bytes place next address first count in-order)
-  action-taken (Table table) in-order fits fit = rw (fit refl, le-leb table 255 fits)
-  action-taken (Flags flags) in-order fits fit = rw (fit refl, le-leb flags 63 in-order)
+  action-taken (Table table) in-order fit = rw (fit refl, le-leb table 255 in-order)
+  action-taken (Flags flags) in-order fit = rw (fit refl, le-leb flags 63 in-order)
 
 -- the action of a field that is taken from a sound tray does what the run does
-pub field-by-action : (bytes : List ℕ) → AreBytes bytes → (place : ℕ) (old : Tray) {field : Field}
-    {next : ℕ} → readAt bytes place (old .begun) ≡ Taken field next → SoundTray old
+pub field-by-action : (bytes : List ℕ) (place : ℕ) (old : Tray) {field : Field} {next : ℕ}
+    → readAt bytes place (old .begun) ≡ Taken field next → SoundTray old
     → actionOf bytes field (old .card) ≡ unrefused (happened (happeningOf bytes field) (old .card))
-field-by-action bytes are place old {field} {next} is sound =
+field-by-action bytes place old {field} {next} is sound =
     action-taken bytes place next (old .card) (sound .whole-memory) field
     (taken-in-order bytes place (old .begun) is)
-    (taken-fits-widths bytes are place (old .begun) is)
     (λ other. sound .fit (begun-before bytes place old is other))
 
 -- ---- a run is what the actions make
 
 -- .. if it is so of fewer bytes
 by-reading : (rest : Tray → List ℕ → Whole) (old : Tray) (bytes : List ℕ) (reading : Reading)
-    → AreBytes bytes → SoundTray old
-    → ((new : Tray) (behind : List ℕ) → length behind < length bytes → AreBytes behind
-    → SoundTray new → ByActions new behind (rest new behind))
+    → SoundTray old
+    → ((new : Tray) (behind : List ℕ) → length behind < length bytes → SoundTray new
+    → ByActions new behind (rest new behind))
     → readAt bytes 0 (old .begun) ≡ reading
     → ByActions old bytes (wholeOf reading rest old bytes)
 unfolding wholeOf taking takingLine
-by-reading rest old bytes (Taken field next) are sound then is =
+by-reading rest old bytes (Taken field next) sound then is =
     let within = taken-within bytes 0 (old .begun) is in
     let fewer : length (drop next bytes) < length bytes =
     omega (arith, length-drop next bytes, within .moves-on, within .ends-inside) in
-    acts sound is (field-by-action bytes are 0 old is sound)
-    (then (taking bytes field next old) (drop next bytes) fewer (bytes-of-drop next bytes are)
-    (taking-is-sound bytes 0 old is are next sound))
-by-reading rest old bytes End are sound then is = ends sound is
-by-reading rest old bytes (Refused number place) are sound then is =
-    refuses sound is (refused-alike bytes are old sound is)
+    acts sound is (field-by-action bytes 0 old is sound)
+    (then (taking bytes field next old) (drop next bytes) fewer
+    (taking-is-sound bytes 0 old is next sound))
+by-reading rest old bytes End sound then is = ends sound is
+by-reading rest old bytes (Refused number place) sound then is =
+    refuses sound is (refused-alike bytes old sound is)
 
 by-turns : (most : ℕ) (old : Tray) (bytes : List ℕ) → length bytes < most
-    → AreBytes bytes → SoundTray old → ByActions old bytes (wholeBy most old bytes)
+    → SoundTray old → ByActions old bytes (wholeBy most old bytes)
 unfolding wholeBy
-by-turns zero old bytes few are sound = absurd (omega (arith, few))
-by-turns (suc most) old bytes few are sound =
-    by-reading (wholeBy most) old bytes (readAt bytes 0 (old .begun)) are sound
+by-turns zero old bytes few sound = absurd (omega (arith, few))
+by-turns (suc most) old bytes few sound =
+    by-reading (wholeBy most) old bytes (readAt bytes 0 (old .begun)) sound
     (λ new behind fewer. by-turns most new behind (omega (arith, few, fewer))) refl
 
-pub run-by-actions : (ram bytes : List ℕ) → length ram ≡ cardWords → AreBytes bytes
+pub run-by-actions : (ram bytes : List ℕ) → length ram ≡ cardWords
     → ByActions (trayOver ram) bytes (wholeFrom (trayOver ram) bytes)
 unfolding wholeFrom
-run-by-actions ram bytes long are =
-    by-turns (suc (length bytes)) (trayOver ram) bytes (omega arith) are (start-is-sound ram long)
+run-by-actions ram bytes long =
+    by-turns (suc (length bytes)) (trayOver ram) bytes (omega arith) (start-is-sound ram long)
 
 -- ---- the actions make nothing else
 
 pub actions-make-the-run : {old : Tray} {bytes : List ℕ} {made : Whole}
-    → ByActions old bytes made → AreBytes bytes → made ≡ wholeFrom old bytes
+    → ByActions old bytes made → made ≡ wholeFrom old bytes
 unfolding wholeOf taking takingLine
 actions-make-the-run {old} {bytes}
-    (acts {field = field} {next = next} {answer = answer} {new = new} sound is taken more) are =
+    (acts {field = field} {next = next} {answer = answer} {new = new} sound is taken more) =
     let same : shown new answer ≡ happened (happeningOf bytes field) (old .card) =
     ap (λ (left : After). shown (left .card) (left .answer))
-    (sym taken ∙ field-by-action bytes are 0 old is sound) in
-    ap (withLine (shownLine (shown new answer)))
-    (actions-make-the-run more (bytes-of-drop next bytes are))
+    (sym taken ∙ field-by-action bytes 0 old is sound) in
+    ap (withLine (shownLine (shown new answer))) (actions-make-the-run more)
     ∙ ap (λ (left : Shown). withLine (shownLine left)
     (wholeFrom (trayWith (left .card) next old) (drop next bytes))) same
     ∙ sym (whole-by-reading old bytes (Taken field next) is)
-actions-make-the-run {old} {bytes} (ends sound is) are = sym (whole-by-reading old bytes End is)
-actions-make-the-run {old} {bytes} (refuses {number = number} {place = place} sound is alike) are =
+actions-make-the-run {old} {bytes} (ends sound is) = sym (whole-by-reading old bytes End is)
+actions-make-the-run {old} {bytes} (refuses {number = number} {place = place} sound is alike) =
     sym (whole-by-reading old bytes (Refused number place) is)

@@ -1,4 +1,4 @@
--- A field that the reader refuses for what it holds, by 2 or 8, its action refuses by the same
+-- A field that the reader refuses for what it holds, by 2, 3 or 8, its action refuses by the same
 -- number: `refused-alike`. So the reader is no stricter than the library. Assumes nothing.
 use mathlib.Core.Path.{_≡_, refl, sym, subst}
 use mathlib.Core.Bool.{Bool, true, false, cond, not, Bool·beq, true≢false}
@@ -44,7 +44,6 @@ use Rattle.recording.specs.Reading.{readAt}
 use Rattle.recording.proofs.Choices.{by-test, choice-under}
 use Rattle.recording.proofs.FieldLaws.{size-of-write}
 use Rattle.recording.proofs.WordsLaws.{length-words-at}
-use Rattle.recording.proofs.InOrder.{AreBytes}
 use Rattle.tray.specs.Run.{Tray}
 use Rattle.tray.specs.Sound.{SoundTray}
 use Rattle.tray.specs.ByActions.{actionOf, firstField, isForValue}
@@ -72,12 +71,13 @@ module _ (bytes : List ℕ) (old : Card) where
   abbrev SameNumber : Field → Type 0
   SameNumber field = actionOf bytes field old .refusal ≡ valueRefusal field
 
-  setup-number : (station table flags : ℕ) → table ≤ 255 → SameNumber (Setup station table flags)
+  setup-number : (station table flags : ℕ) → SameNumber (Setup station table flags)
   unfolding actionOf setupAction
-  setup-number station table flags fits =
-      rw (above 30 station, le-leb table 255 fits, above 63 flags)
+  setup-number station table flags =
+      rw (above 30 station, above 255 table, above 63 flags)
       (sym (choice-under (λ (done : Done). done .refusal) (ltb 30 station) refl
-      (choice-under (λ (done : Done). done .refusal) (ltb 63 flags) refl refl)))
+      (choice-under (λ (done : Done). done .refusal) (ltb 255 table) refl
+      (choice-under (λ (done : Done). done .refusal) (ltb 63 flags) refl refl))))
 
   module _ (long : length (old .ram) ≡ cardWords) (fit : fitCard old ≡ true) where
     word-number : (marks value time : ℕ) → SameNumber (Word marks value time)
@@ -105,9 +105,11 @@ module _ (bytes : List ℕ) (old : Card) where
         )
         (memory-number _ old (leb (address + count) cardWords) long fit)
 
-    table-number : (table : ℕ) → table ≤ 255 → SameNumber (Table table)
+    table-number : (table : ℕ) → SameNumber (Table table)
     unfolding actionOf moveTableAction withoutMemory
-    table-number table fits = rw (fit, le-leb table 255 fits)
+    table-number table =
+        rw (fit, above 255 table)
+        (sym (choice-under (λ (left : After). left .refusal) (ltb 255 table) refl refl))
 
     flags-number : (flags : ℕ) → SameNumber (Flags flags)
     unfolding actionOf setFlagsAction withoutMemory
@@ -117,7 +119,7 @@ module _ (bytes : List ℕ) (old : Card) where
 
 -- ---- the reader's number
 
-module _ (bytes : List ℕ) (are : AreBytes bytes) (old : Tray) (sound : SoundTray old) where
+module _ (bytes : List ℕ) (old : Tray) (sound : SoundTray old) where
   abbrev tag : ℕ
   tag = byteAt bytes 0
 
@@ -140,8 +142,7 @@ module _ (bytes : List ℕ) (are : AreBytes bytes) (old : Tray) (sound : SoundTr
   unfolding fieldAt
   first-number fits in-turn =
       by-test Claim (eqb tag 1)
-      (λ _. setup-number bytes given (byteAt bytes 3) (byteAt bytes 4) (byteAt bytes 5)
-      (omega (arith, are 4)))
+      (λ _. setup-number bytes given (byteAt bytes 3) (byteAt bytes 4) (byteAt bytes 5))
       (λ other.
       let fit : fitCard given ≡ true = fit-in-turn in-turn other in
       by-test Claim (eqb tag 2)
@@ -157,7 +158,7 @@ module _ (bytes : List ℕ) (are : AreBytes bytes) (old : Tray) (sound : SoundTr
       (omega (arith, sized .at-least)) (omega (arith, sized .at-most)))
       (λ _.
       by-test Claim (eqb tag 6)
-      (λ _. table-number bytes given long fit (byteAt bytes 3) (omega (arith, are 3)))
+      (λ _. table-number bytes given long fit (byteAt bytes 3))
       (λ _. flags-number bytes given long fit (byteAt bytes 3)))))))
     where
       given : Card

@@ -1,6 +1,6 @@
 -- A run that begins over 16,384 words is sound, `start-is-sound`, and every field that it takes
 -- leaves it sound, `taking-is-sound`: the memory keeps its words, and the terminal that setup makes
--- stays fit. The elements of the list have to be bytes. Assumes nothing.
+-- stays fit. Assumes nothing.
 use mathlib.Core.Path.{_≡_, refl, sym, _∙_}
 use mathlib.Core.Bool.{true, false, true≢false}
 use mathlib.Core.List.{List}
@@ -36,13 +36,7 @@ use Rattle.recording.specs.declared.Reading.the-variants.{Taken}
 use Rattle.recording.specs.Field.{isSetup}
 use Rattle.recording.specs.Reading.{readAt}
 use Rattle.recording.proofs.TakenLaws.{setup-by-turn}
-use Rattle.recording.proofs.InOrder.{
-  InOrder,
-  taken-in-order,
-  AreBytes,
-  FitsWidths,
-  taken-fits-widths,
-}
+use Rattle.recording.proofs.InOrder.{InOrder, taken-in-order}
 use Rattle.tray.specs.Happening.{Happening, setup, event, happeningOf, happened}
 use Rattle.tray.specs.Run.{Tray, trayOver, taking}
 use Rattle.tray.specs.Sound.{SoundTray}
@@ -64,23 +58,24 @@ happening-keeps-length (event told) old = step-writes-only told old .same-length
 
 -- a setup makes a fit terminal, and all else keeps it fit
 happening-is-fit : (bytes : List ℕ) (field : Field) (place next : ℕ) (old : Card)
-    → InOrder place next field → FitsWidths field → (isSetup field ≡ false → FitCard old)
+    → InOrder place next field → (isSetup field ≡ false → FitCard old)
     → FitCard (happened (happeningOf bytes field) old .card)
 unfolding happened happeningOf FitEvent terminalAtSetup
-happening-is-fit bytes (Setup station table flags) place next old in-order fits fit =
+happening-is-fit bytes (Setup station table flags) place next old in-order fit =
     fit-card-parts _
-    (fit-at-setup station table flags (in-order .station-at-most) fits (in-order .flags-at-most))
-happening-is-fit bytes (Word marks value time) place next old in-order fits fit =
+    (fit-at-setup station table flags (in-order .station-at-most) (in-order .table-at-most)
+    (in-order .flags-at-most))
+happening-is-fit bytes (Word marks value time) place next old in-order fit =
     fit-stays-fit (word _) old tt (fit refl)
-happening-is-fit bytes (Silence line time) place next old in-order fits fit =
+happening-is-fit bytes (Silence line time) place next old in-order fit =
     fit-stays-fit (silence _ time) old tt (fit refl)
-happening-is-fit bytes QueueRead place next old in-order fits fit =
+happening-is-fit bytes QueueRead place next old in-order fit =
     fit-stays-fit queueRead old tt (fit refl)
-happening-is-fit bytes (HostWrite address first count) place next old in-order fits fit =
+happening-is-fit bytes (HostWrite address first count) place next old in-order fit =
     fit-stays-fit (hostWrite address _) old tt (fit refl)
-happening-is-fit bytes (Table table) place next old in-order fits fit =
-    fit-stays-fit (tableMove table) old fits (fit refl)
-happening-is-fit bytes (Flags flags) place next old in-order fits fit =
+happening-is-fit bytes (Table table) place next old in-order fit =
+    fit-stays-fit (tableMove table) old in-order (fit refl)
+happening-is-fit bytes (Flags flags) place next old in-order fit =
     fit-stays-fit (flagsWrite flags) old in-order (fit refl)
 
 module _ (bytes : List ℕ) (place : ℕ) (old : Tray) {field : Field} {next : ℕ}
@@ -90,16 +85,15 @@ module _ (bytes : List ℕ) (place : ℕ) (old : Tray) {field : Field} {next : �
   begun-before other =
       not-false (old .begun) (sym (setup-by-turn bytes place (old .begun) is) ∙ other)
 
-  pub taking-is-sound : AreBytes bytes → (size : ℕ) → SoundTray old
+  pub taking-is-sound : (size : ℕ) → SoundTray old
       → SoundTray (taking bytes field size old)
   unfolding taking
-  taking-is-sound are size sound =
+  taking-is-sound size sound =
       record {
         whole-memory =
             happening-keeps-length (happeningOf bytes field) (old .card) ∙ sound .whole-memory;
         fit =
             λ _. fit-card-whole (happening-is-fit bytes field place next (old .card)
             (taken-in-order bytes place (old .begun) is)
-            (taken-fits-widths bytes are place (old .begun) is)
             (λ other. fit-card-parts (old .card) (sound .fit (begun-before other))));
       }

@@ -74,7 +74,7 @@ firstField bytes = fieldAt bytes (byteAt bytes 0) 3 (wordAt bytes 1)
 
 -- the reader's numbers for what a field holds; its others are for how the field stands in the bytes
 abbrev pub isForValue : ℕ → Bool
-isForValue number = eqb number 2 || eqb number 8
+isForValue number = eqb number 2 || eqb number 3 || eqb number 8
 
 -- ---- the run
 

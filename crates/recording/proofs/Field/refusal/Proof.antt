@@ -13,19 +13,22 @@ returns : tie.Need-returns
 returns c = search (cases, refusals) depth 9
 
 returns-2 : tie.Need-returns-2
-returns-2 c = search (cases, refusals) depth 9
-
-enum-known-self-2 : tie.Need-enum-known-self-2
-enum-known-self-2 c = search needs
+returns-2 c = search needs
 
 returns-3 : tie.Need-returns-3
 returns-3 c = search (cases, refusals) depth 9
 
-enum-known-self-3 : tie.Need-enum-known-self-3
-enum-known-self-3 c = search needs
+enum-known-self-2 : tie.Need-enum-known-self-2
+enum-known-self-2 c = search needs
 
 returns-4 : tie.Need-returns-4
 returns-4 c = search (cases, refusals) depth 9
+
+enum-known-self-3 : tie.Need-enum-known-self-3
+enum-known-self-3 c = search needs
+
+returns-5 : tie.Need-returns-5
+returns-5 c = search (cases, refusals) depth 9
 
 enum-told : tie.Need-enum-told
 enum-told c = search needs
@@ -33,29 +36,26 @@ enum-told c = search needs
 enum-known-self-4 : tie.Need-enum-known-self-4
 enum-known-self-4 c = search needs
 
-returns-5 : tie.Need-returns-5
-returns-5 c = search (cases, refusals) depth 9
-
-cast-if6 : tie.Need-cast-if6
-cast-if6 c = search needs
-
-add-if6 : tie.Need-add-if6
-add-if6 c = search needs
-
 returns-6 : tie.Need-returns-6
 returns-6 c = search (cases, refusals) depth 9
 
-enum-told-2 : tie.Need-enum-told-2
-enum-told-2 c = search needs
+cast-if7 : tie.Need-cast-if7
+cast-if7 c = search needs
 
-enum-known-self-5 : tie.Need-enum-known-self-5
-enum-known-self-5 c = search needs
+add-if7 : tie.Need-add-if7
+add-if7 c = search needs
 
 returns-7 : tie.Need-returns-7
 returns-7 c = search (cases, refusals) depth 9
 
+enum-known-self-5 : tie.Need-enum-known-self-5
+enum-known-self-5 c = search needs
+
 returns-8 : tie.Need-returns-8
-returns-8 c = search (cases, refusals) depth 9
+returns-8 c = search needs
+
+enum-known-self-6 : tie.Need-enum-known-self-6
+enum-known-self-6 c = search needs
 
 returns-9 : tie.Need-returns-9
 returns-9 c = search (cases, refusals) depth 9
@@ -64,7 +64,7 @@ returns-10 : tie.Need-returns-10
 returns-10 c = search (cases, refusals) depth 9
 
 returns-11 : tie.Need-returns-11
-returns-11 c = search needs
+returns-11 c = search (cases, refusals) depth 9
 
 returns-12 : tie.Need-returns-12
 returns-12 c = search (cases, refusals) depth 9
@@ -75,6 +75,12 @@ returns-13 c = search needs
 returns-14 : tie.Need-returns-14
 returns-14 c = search (cases, refusals) depth 9
 
+returns-15 : tie.Need-returns-15
+returns-15 c = search (cases, refusals) depth 9
+
+returns-16 : tie.Need-returns-16
+returns-16 c = search (cases, refusals) depth 9
+
 pub refusal-spec : {M : Type 1} → statement M
 refusal-spec =
     tie.close
@@ -82,23 +88,25 @@ refusal-spec =
     enum-known-self
     returns
     returns-2
-    enum-known-self-2
     returns-3
-    enum-known-self-3
+    enum-known-self-2
     returns-4
+    enum-known-self-3
+    returns-5
     enum-told
     enum-known-self-4
-    returns-5
-    cast-if6
-    add-if6
     returns-6
-    enum-told-2
-    enum-known-self-5
+    cast-if7
+    add-if7
     returns-7
+    enum-known-self-5
     returns-8
+    enum-known-self-6
     returns-9
     returns-10
     returns-11
     returns-12
     returns-13
-    returns-14)
+    returns-14
+    returns-15
+    returns-16)
