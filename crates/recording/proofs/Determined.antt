@@ -4,12 +4,12 @@ use mathlib.Core.List.{List}
 use Prim.Native.Nat.{ℕ}
 use denote.Ref.{now}
 use Rattle.rules.proofs.Determined.{Determined, DeterminedAs, same}
-use Rattle.recording.proofs.read_field.Kinds as read-field-kinds
-use Rattle.recording.proofs.read_field.Reads as read-field-reads
-use Rattle.recording.proofs.find_word.Kinds as find-word-kinds
-use Rattle.recording.proofs.find_word.Reads as find-word-reads
-use Rattle.recording.proofs.copy_words.Kinds as copy-words-kinds
-use Rattle.recording.proofs.copy_words.Reads as copy-words-reads
+use Rattle.recording.proofs.reading.read_field.Kinds as read-field-kinds
+use Rattle.recording.proofs.reading.read_field.Reads as read-field-reads
+use Rattle.recording.proofs.words.find_word.Kinds as find-word-kinds
+use Rattle.recording.proofs.words.find_word.Reads as find-word-reads
+use Rattle.recording.proofs.words.copy_words.Kinds as copy-words-kinds
+use Rattle.recording.proofs.words.copy_words.Reads as copy-words-reads
 
 pub read-field : Determined 1 read-field-kinds.ps read-field-kinds.r read-field-reads.Post
 read-field κs arguments result result′ exit exit′ = same

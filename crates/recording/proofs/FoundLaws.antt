@@ -1,5 +1,5 @@
--- The laws of `specs/Cut/Found.antt`: what is found on each way that the code takes, and that a word
--- field which is found is what the reader reads there (`found-is-read`). Assumes nothing.
+-- The laws of `specs/Cut/Found.antt`: what is found on each way that the code takes, and that a
+-- word field which is found is what the reader reads there (`found-is-read`). Assumes nothing.
 use mathlib.Core.Path.{_≡_, refl, subst}
 use mathlib.Core.Bool.{Bool, true, false, not, _&&_}
 use mathlib.Core.List.{List}
@@ -16,10 +16,10 @@ use borrow.Author.Tests.{
   not-true,
   not-false,
 }
-use Rattle.recording.specs.declared.Field.the-variants.{Word}
-use Rattle.recording.specs.declared.Found.{Found}
-use Rattle.recording.specs.declared.Found.the-variants.{Value, Nothing}
-use Rattle.recording.specs.declared.Reading.the-variants.{Taken}
+use Rattle.recording.specs.declared.field.Field.the-variants.{Word}
+use Rattle.recording.specs.declared.words.Found.{Found}
+use Rattle.recording.specs.declared.words.Found.the-variants.{Value, Nothing}
+use Rattle.recording.specs.declared.reading.Reading.the-variants.{Taken}
 use Rattle.recording.specs.Bytes.{bytesLeft, byteAt, wordAt, timeAt}
 use Rattle.recording.specs.Field.{lengthFits, fieldAt}
 use Rattle.recording.specs.Reading.{readAt}

@@ -17,9 +17,9 @@ use borrow.Author.Tests.{
   le-ltb,
   not-false,
 }
-use Rattle.recording.specs.declared.Field.{Field}
-use Rattle.recording.specs.declared.Reading.{Reading}
-use Rattle.recording.specs.declared.Reading.the-variants.{Taken, End, Refused}
+use Rattle.recording.specs.declared.field.Field.{Field}
+use Rattle.recording.specs.declared.reading.Reading.{Reading}
+use Rattle.recording.specs.declared.reading.Reading.the-variants.{Taken, End, Refused}
 use Rattle.recording.specs.Bytes.{bytesLeft, byteAt, wordAt, timeAt, wordsAt}
 use Rattle.recording.specs.Field.{isTag, lengthFits, fieldAt, valueRefusal, ValueThere}
 use Rattle.recording.specs.Reading.{readAt}

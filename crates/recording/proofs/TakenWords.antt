@@ -7,8 +7,8 @@ use mathlib.Core.List.{List, _++_}
 use Prim.Native.Nat.{ℕ, _*_, _≤_}
 use native.Mathlib.Omega.{arith}
 use lib.ListN.{length, take}
-use Rattle.recording.specs.declared.Field.the-variants.{HostWrite}
-use Rattle.recording.specs.declared.Reading.the-variants.{Taken}
+use Rattle.recording.specs.declared.field.Field.the-variants.{HostWrite}
+use Rattle.recording.specs.declared.reading.Reading.the-variants.{Taken}
 use Rattle.recording.specs.Bytes.{bytesLeft, wordsAt, withWords}
 use Rattle.recording.specs.Reading.{readAt}
 use Rattle.recording.proofs.WordsLaws.{front-of-copy}

@@ -6,8 +6,8 @@ use mathlib.Core.List.{List}
 use Prim.Native.Nat.{ℕ, _+_, _-_, _/_, _%_, _≤_}
 use lib.Dec.{eqb, leb, ltb}
 use lib.ListN.{length}
-use Rattle.recording.specs.declared.Field.{Field}
-use Rattle.recording.specs.declared.Field.the-variants.{
+use Rattle.recording.specs.declared.field.Field.{Field}
+use Rattle.recording.specs.declared.field.Field.the-variants.{
   Setup,
   Word,
   Silence,

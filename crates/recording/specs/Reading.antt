@@ -3,9 +3,9 @@ use mathlib.Core.Bool.{Bool, cond, not, Bool·beq}
 use mathlib.Core.List.{List}
 use Prim.Native.Nat.{ℕ, _+_}
 use lib.Dec.{eqb, ltb}
-use Rattle.recording.specs.declared.Field.{Field}
-use Rattle.recording.specs.declared.Reading.{Reading}
-use Rattle.recording.specs.declared.Reading.the-variants.{Taken, End, Refused}
+use Rattle.recording.specs.declared.field.Field.{Field}
+use Rattle.recording.specs.declared.reading.Reading.{Reading}
+use Rattle.recording.specs.declared.reading.Reading.the-variants.{Taken, End, Refused}
 use Rattle.recording.specs.Bytes.{bytesLeft, byteAt, wordAt}
 use Rattle.recording.specs.Field.{isTag, lengthFits, fieldAt, valueRefusal}
 

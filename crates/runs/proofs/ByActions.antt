@@ -11,8 +11,8 @@ use Rattle.card.specs.Memory.{cardWords}
 use Rattle.queue.specs.Queue.{emptyQueue}
 use Rattle.terminal.specs.State.{card, coreAtSetup}
 use Rattle.actions.specs.Actions.{After}
-use Rattle.recording.specs.declared.Reading.{Reading}
-use Rattle.recording.specs.declared.Reading.the-variants.{Taken, End, Refused}
+use Rattle.recording.specs.declared.reading.Reading.{Reading}
+use Rattle.recording.specs.declared.reading.Reading.the-variants.{Taken, End, Refused}
 use Rattle.recording.specs.Field.{lengthFits, fieldAt}
 use Rattle.recording.specs.Reading.{readAt}
 use Rattle.runs.proofs.Telling.{runs}

@@ -7,8 +7,8 @@ use mathlib.Core.List.{List, [], _∷_, _++_, append-nil}
 use Prim.Native.Nat.{ℕ}
 use lib.ListN.{drop}
 use lib.Seq.{drop-append-le}
-use Rattle.recording.specs.declared.Field.{Field}
-use Rattle.recording.specs.declared.Field.the-variants.{
+use Rattle.recording.specs.declared.field.Field.{Field}
+use Rattle.recording.specs.declared.field.Field.the-variants.{
   Setup,
   Word,
   Silence,
@@ -17,8 +17,8 @@ use Rattle.recording.specs.declared.Field.the-variants.{
   Table,
   Flags,
 }
-use Rattle.recording.specs.declared.Reading.{Reading}
-use Rattle.recording.specs.declared.Reading.the-variants.{Taken, End, Refused}
+use Rattle.recording.specs.declared.reading.Reading.{Reading}
+use Rattle.recording.specs.declared.reading.Reading.the-variants.{Taken, End, Refused}
 use Rattle.recording.specs.Reading.{readAt}
 use Rattle.recording.proofs.TakenLaws.{taken-within}
 use Rattle.recording.proofs.MoreBytes.{more-bytes-same-field}

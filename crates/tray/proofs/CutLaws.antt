@@ -10,8 +10,8 @@ use lib.Dec.{eqb, ltb}
 use lib.ListN.{length, take, drop, take-append-drop, drop-of-length-le, List·getD-append}
 use lib.Seq.{length-take-le}
 use borrow.Author.Tests.{ne-eqb, le-ltb}
-use Rattle.recording.specs.declared.Field.{Field}
-use Rattle.recording.specs.declared.Reading.the-variants.{Taken}
+use Rattle.recording.specs.declared.field.Field.{Field}
+use Rattle.recording.specs.declared.reading.Reading.the-variants.{Taken}
 use Rattle.recording.specs.Bytes.{bytesLeft, byteAt, wordAt}
 use Rattle.recording.specs.Field.{isTag, lengthFits, fieldAt, valueRefusal}
 use Rattle.recording.specs.Reading.{readAt}

@@ -37,8 +37,8 @@ use Rattle.terminal.specs.Machine.{
 }
 use Rattle.bus.specs.Word.{wordOf}
 use Rattle.terminal.proofs.SilentLaws.{words-are-silent}
-use Rattle.recording.specs.declared.Field.{Field}
-use Rattle.recording.specs.declared.Field.the-variants as field
+use Rattle.recording.specs.declared.field.Field.{Field}
+use Rattle.recording.specs.declared.field.Field.the-variants as field
 use Rattle.recording.specs.Bytes.{wordsAt, withWords}
 use Rattle.recording.proofs.WordsLaws.{front-of-copy}
 use Rattle.tray.specs.declared.Happened.{Happened}

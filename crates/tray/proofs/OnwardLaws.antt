@@ -7,9 +7,9 @@ use Prim.Native.Nat.{ℕ, suc, _+_, _-_, _≤_}
 use native.Mathlib.Omega.{arith}
 use lib.ListN.{length, drop, length-drop}
 use borrow.Author.Tests.{ne-eqb}
-use Rattle.recording.specs.declared.Field.{Field}
-use Rattle.recording.specs.declared.Reading.{Reading}
-use Rattle.recording.specs.declared.Reading.the-variants.{Taken, End, Refused}
+use Rattle.recording.specs.declared.field.Field.{Field}
+use Rattle.recording.specs.declared.reading.Reading.{Reading}
+use Rattle.recording.specs.declared.reading.Reading.the-variants.{Taken, End, Refused}
 use Rattle.recording.specs.Reading.{readAt}
 use Rattle.recording.proofs.TakenLaws.{taken-within, isReaderNumber, refused-names-place}
 use Rattle.lines.specs.Lines.{endLine, refusalLine}

@@ -11,9 +11,9 @@ use Rattle.card.specs.Sent.{sentPart}
 use Rattle.terminal.specs.declared.state.Answer.{Answer}
 use Rattle.terminal.specs.declared.state.Answer.the-variants.{Replied, QueueWord}
 use Rattle.terminal.specs.declared.state.Reply.the-variants.{Silent, Status, Words, Last}
-use Rattle.recording.specs.declared.Field.{Field}
-use Rattle.recording.specs.declared.Reading.{Reading}
-use Rattle.recording.specs.declared.Reading.the-variants.{Taken, End, Refused}
+use Rattle.recording.specs.declared.field.Field.{Field}
+use Rattle.recording.specs.declared.reading.Reading.{Reading}
+use Rattle.recording.specs.declared.reading.Reading.the-variants.{Taken, End, Refused}
 use Rattle.recording.specs.Reading.{readAt}
 use Rattle.recording.proofs.TakenLaws.{taken-within}
 use Rattle.lines.specs.Lines.{endLine, refusalLine}

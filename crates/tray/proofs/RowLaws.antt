@@ -21,8 +21,8 @@ use Rattle.message.specs.Message.{further}
 use Rattle.message.specs.Asked.{asks}
 use Rattle.terminal.specs.declared.state.Core.{Core}
 use Rattle.terminal.specs.State.{withMessage}
-use Rattle.recording.specs.declared.Found.{Found}
-use Rattle.recording.specs.declared.Found.the-variants.{Value, Nothing}
+use Rattle.recording.specs.declared.words.Found.{Found}
+use Rattle.recording.specs.declared.words.Found.the-variants.{Value, Nothing}
 use Rattle.recording.specs.Cut.Found.{wordFound}
 use Rattle.tray.specs.declared.row.Row.{Row}
 use Rattle.tray.specs.declared.Ran.{Ran}

@@ -22,8 +22,8 @@ use Rattle.message.specs.Message.{further}
 use Rattle.message.specs.Asked.{asks}
 use Rattle.message.proofs.AskedBounds.{takes-at-most}
 use Rattle.terminal.specs.State.{withMessage}
-use Rattle.recording.specs.declared.Found.{Found}
-use Rattle.recording.specs.declared.Found.the-variants.{Value, Nothing}
+use Rattle.recording.specs.declared.words.Found.{Found}
+use Rattle.recording.specs.declared.words.Found.the-variants.{Value, Nothing}
 use Rattle.recording.specs.Cut.Found.{wordFound}
 use Rattle.recording.proofs.Choices.{both-of}
 use Rattle.lines.specs.Written.{lineRoom, mostWords}

@@ -22,8 +22,8 @@ use Rattle.terminal_laws.proofs.FitLaws.{FitEvent, fit-stays-fit}
 use Rattle.terminal_laws.proofs.StepFrame.{step-writes-only}
 use Rattle.actions.specs.Actions.{terminalAtSetup}
 use Rattle.actions.proofs.SetupLaws.{fit-at-setup}
-use Rattle.recording.specs.declared.Field.{Field}
-use Rattle.recording.specs.declared.Field.the-variants.{
+use Rattle.recording.specs.declared.field.Field.{Field}
+use Rattle.recording.specs.declared.field.Field.the-variants.{
   Setup,
   Word,
   Silence,
@@ -32,7 +32,7 @@ use Rattle.recording.specs.declared.Field.the-variants.{
   Table,
   Flags,
 }
-use Rattle.recording.specs.declared.Reading.the-variants.{Taken}
+use Rattle.recording.specs.declared.reading.Reading.the-variants.{Taken}
 use Rattle.recording.specs.Field.{isSetup}
 use Rattle.recording.specs.Reading.{readAt}
 use Rattle.recording.proofs.TakenLaws.{setup-by-turn}

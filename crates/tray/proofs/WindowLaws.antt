@@ -11,8 +11,8 @@ use lib.ListN.{length, take, drop}
 use lib.Seq.{drop-append-le, drop-drop}
 use borrow.Author.Tests.{ltb-false}
 use Rattle.terminal.specs.Event.{hostWrite}
-use Rattle.recording.specs.declared.Field.{Field}
-use Rattle.recording.specs.declared.Field.the-variants.{
+use Rattle.recording.specs.declared.field.Field.{Field}
+use Rattle.recording.specs.declared.field.Field.the-variants.{
   Setup,
   Word,
   Silence,
@@ -21,8 +21,8 @@ use Rattle.recording.specs.declared.Field.the-variants.{
   Table,
   Flags,
 }
-use Rattle.recording.specs.declared.Reading.{Reading}
-use Rattle.recording.specs.declared.Reading.the-variants.{Taken, End, Refused}
+use Rattle.recording.specs.declared.reading.Reading.{Reading}
+use Rattle.recording.specs.declared.reading.Reading.the-variants.{Taken, End, Refused}
 use Rattle.recording.specs.Cut.Pieces.{shiftedField, shifted}
 use Rattle.recording.specs.Reading.{readAt}
 use Rattle.recording.proofs.TakenLaws.{taken-within}

@@ -21,8 +21,8 @@ use Rattle.terminal.specs.Event.{quietly}
 use Rattle.terminal.specs.WordStep.{wordDone, wordStep}
 use Rattle.terminal.specs.Machine.{step}
 use Rattle.bus.specs.Word.{wordOf}
-use Rattle.recording.specs.declared.Found.{Found}
-use Rattle.recording.specs.declared.Found.the-variants.{Value, Nothing}
+use Rattle.recording.specs.declared.words.Found.{Found}
+use Rattle.recording.specs.declared.words.Found.the-variants.{Value, Nothing}
 use Rattle.recording.specs.Bytes.{timeAt}
 use Rattle.recording.specs.Cut.Found.{wordFound}
 use Rattle.recording.proofs.FoundLaws.{found-is-read, found-moves-on}

@@ -7,8 +7,8 @@ use mathlib.Core.List.{List, [], _∷_, _++_}
 use Prim.Native.Nat.{ℕ, _+_}
 use lib.ListN.{length}
 use Rattle.terminal.specs.State.{Card}
-use Rattle.recording.specs.declared.Reading.{Reading}
-use Rattle.recording.specs.declared.Reading.the-variants.{End, Refused}
+use Rattle.recording.specs.declared.reading.Reading.{Reading}
+use Rattle.recording.specs.declared.reading.Reading.the-variants.{End, Refused}
 use Rattle.recording.specs.Reading.{readAt}
 use Rattle.lines.specs.Lines.{endLine, refusalLine}
 use Rattle.tray.specs.Happening.{Happening, happened}

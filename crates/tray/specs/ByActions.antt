@@ -25,8 +25,8 @@ use Rattle.actions.specs.Actions.{
   terminal,
   setupAction,
 }
-use Rattle.recording.specs.declared.Field.{Field}
-use Rattle.recording.specs.declared.Field.the-variants.{
+use Rattle.recording.specs.declared.field.Field.{Field}
+use Rattle.recording.specs.declared.field.Field.the-variants.{
   Setup,
   Word,
   Silence,
@@ -35,7 +35,7 @@ use Rattle.recording.specs.declared.Field.the-variants.{
   Table,
   Flags,
 }
-use Rattle.recording.specs.declared.Reading.the-variants.{Taken, End, Refused}
+use Rattle.recording.specs.declared.reading.Reading.the-variants.{Taken, End, Refused}
 use Rattle.recording.specs.Bytes.{byteAt, wordAt, wordsAt}
 use Rattle.recording.specs.Field.{fieldAt}
 use Rattle.recording.specs.Reading.{readAt}

@@ -21,8 +21,8 @@ use Rattle.terminal.specs.Event.{
 }
 use Rattle.terminal.specs.Machine.{step}
 use Rattle.bus.specs.Word.{wordOf}
-use Rattle.recording.specs.declared.Field.{Field}
-use Rattle.recording.specs.declared.Field.the-variants.{
+use Rattle.recording.specs.declared.field.Field.{Field}
+use Rattle.recording.specs.declared.field.Field.the-variants.{
   Setup,
   Word,
   Silence,

@@ -13,9 +13,9 @@ use Rattle.terminal.specs.declared.state.Answer.the-variants.{Replied, QueueWor
 use Rattle.terminal.specs.State.{Card, card, coreAtSetup}
 use Rattle.terminal.specs.Reply.{replyWords}
 use Rattle.terminal.specs.Event.{Shown}
-use Rattle.recording.specs.declared.Field.{Field}
-use Rattle.recording.specs.declared.Reading.{Reading}
-use Rattle.recording.specs.declared.Reading.the-variants.{Taken, End, Refused}
+use Rattle.recording.specs.declared.field.Field.{Field}
+use Rattle.recording.specs.declared.reading.Reading.{Reading}
+use Rattle.recording.specs.declared.reading.Reading.the-variants.{Taken, End, Refused}
 use Rattle.recording.specs.Reading.{readAt}
 use Rattle.lines.specs.Lines.{statusLine, queueLine, endLine, refusalLine}
 use Rattle.tray.specs.Happening.{happeningOf, happened}

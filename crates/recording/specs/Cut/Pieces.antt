@@ -2,8 +2,8 @@
 use mathlib.Core.Bool.{Bool, true, false, not}
 use Prim.Native.Nat.{ℕ, _+_}
 use lib.Dec.{eqb}
-use Rattle.recording.specs.declared.Field.{Field}
-use Rattle.recording.specs.declared.Field.the-variants.{
+use Rattle.recording.specs.declared.field.Field.{Field}
+use Rattle.recording.specs.declared.field.Field.the-variants.{
   Setup,
   Word,
   Silence,
@@ -12,8 +12,8 @@ use Rattle.recording.specs.declared.Field.the-variants.{
   Table,
   Flags,
 }
-use Rattle.recording.specs.declared.Reading.{Reading}
-use Rattle.recording.specs.declared.Reading.the-variants.{Taken, End, Refused}
+use Rattle.recording.specs.declared.reading.Reading.{Reading}
+use Rattle.recording.specs.declared.reading.Reading.the-variants.{Taken, End, Refused}
 
 -- whether a reading stands, whatever bytes come behind: all do but the end and refusal 5
 abbrev pub isSettled : Reading → Bool

@@ -5,8 +5,8 @@ use mathlib.Core.List.{List}
 use Prim.Native.Nat.{ℕ, _*_, _≤_}
 use Rattle.queue.specs.Queue.{ringOf}
 use Rattle.terminal.specs.State.{card, cardOf, coreAtSetup}
-use Rattle.recording.specs.declared.Field.{Field}
-use Rattle.recording.specs.declared.Field.the-variants.{HostWrite}
+use Rattle.recording.specs.declared.field.Field.{Field}
+use Rattle.recording.specs.declared.field.Field.the-variants.{HostWrite}
 use Rattle.recording.specs.Bytes.{bytesLeft}
 use Rattle.tray.specs.declared.Run.{Run}
 use Rattle.tray.specs.declared.Ran.{Ran}

@@ -19,8 +19,8 @@ use Rattle.message.specs.declared.state.Message.the-variants.{Open}
 use Rattle.message.specs.Message.{further}
 use Rattle.message.specs.Asked.{asks}
 use Rattle.terminal.specs.State.{withMessage}
-use Rattle.recording.specs.declared.Found.{Found}
-use Rattle.recording.specs.declared.Found.the-variants.{Value, Nothing}
+use Rattle.recording.specs.declared.words.Found.{Found}
+use Rattle.recording.specs.declared.words.Found.the-variants.{Value, Nothing}
 use Rattle.recording.specs.Cut.Found.{wordFound}
 use Rattle.lines.specs.Written.{lineRoom, mostWords}
 use Rattle.tray.specs.declared.row.Row.{Row}

@@ -1,8 +1,8 @@
--- `recording::length_fits` meets its contract, by the cases of its tests. Assumes nothing.
+-- `recording::field::length_fits` meets its contract, by the cases of its tests. Assumes nothing.
 use Rattle.rules.proofs.Cases.{cases}
 use Rattle.recording.specs.Field.{lengthFits}
-use Rattle.recording.proofs.length_fits.Statement.{statement}
-use Rattle.recording.proofs.length_fits.Tie as tie
+use Rattle.recording.proofs.field.length_fits.Statement.{statement}
+use Rattle.recording.proofs.field.length_fits.Tie as tie
 
 returns : tie.Need-returns
 unfolding lengthFits

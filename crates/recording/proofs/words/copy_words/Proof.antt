@@ -1,8 +1,8 @@
--- `recording::copy_words` meets its contract, by the cases of its tests. Assumes nothing.
+-- `recording::words::copy_words` meets its contract, by the cases of its tests. Assumes nothing.
 use borrow.Author.Needs.{needs}
 use Rattle.recording.proofs.WordsLaws.{copies}
-use Rattle.recording.proofs.copy_words.Statement.{statement}
-use Rattle.recording.proofs.copy_words.Tie as tie
+use Rattle.recording.proofs.words.copy_words.Statement.{statement}
+use Rattle.recording.proofs.words.copy_words.Tie as tie
 
 returns : tie.Need-returns
 returns c = search (needs, copies)

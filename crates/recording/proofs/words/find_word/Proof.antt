@@ -1,8 +1,9 @@
--- `recording::find_word` meets its contract: a law for each way that it takes. Assumes nothing.
+-- `recording::words::find_word` meets its contract: a law for each way that it takes. Assumes
+-- nothing.
 use borrow.Author.Needs.{needs}
 use Rattle.recording.proofs.FoundLaws.{finding}
-use Rattle.recording.proofs.find_word.Statement.{statement}
-use Rattle.recording.proofs.find_word.Tie as tie
+use Rattle.recording.proofs.words.find_word.Statement.{statement}
+use Rattle.recording.proofs.words.find_word.Tie as tie
 
 bytes-left-requires : tie.Need-bytes-left-requires
 bytes-left-requires c κs = search needs

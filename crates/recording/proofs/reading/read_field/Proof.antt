@@ -1,4 +1,4 @@
--- `recording::read_field` meets its contract: a law for each answer of the reader. Assumes
+-- `recording::reading::read_field` meets its contract: a law for each answer of the reader. Assumes
 -- nothing.
 use borrow.Author.Needs.{needs}
 use Rattle.recording.proofs.ReadingLaws.{
@@ -12,8 +12,8 @@ use Rattle.recording.proofs.ReadingLaws.{
   read-refused,
   read-taken,
 }
-use Rattle.recording.proofs.read_field.Statement.{statement}
-use Rattle.recording.proofs.read_field.Tie as tie
+use Rattle.recording.proofs.reading.read_field.Statement.{statement}
+use Rattle.recording.proofs.reading.read_field.Tie as tie
 
 bytes-left-requires : tie.Need-bytes-left-requires
 bytes-left-requires c κs = search needs

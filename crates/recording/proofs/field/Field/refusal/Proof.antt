@@ -1,10 +1,10 @@
--- `recording::Field::refusal` meets its contract, by the cases of the field and of its tests.
--- Assumes nothing.
+-- `recording::field::Field::refusal` meets its contract, by the cases of the field and of its
+-- tests. Assumes nothing.
 use borrow.Author.Needs.{needs}
 use Rattle.rules.proofs.Cases.{cases}
 use Rattle.recording.proofs.FieldLaws.{refusals}
-use Rattle.recording.proofs.Field.refusal.Statement.{statement}
-use Rattle.recording.proofs.Field.refusal.Tie as tie
+use Rattle.recording.proofs.field.Field.refusal.Statement.{statement}
+use Rattle.recording.proofs.field.Field.refusal.Tie as tie
 
 enum-known-self : tie.Need-enum-known-self
 enum-known-self c = search needs

@@ -1,5 +1,5 @@
--- `recording::copy_all` meets its contract. The invariant of its loop is `Copying`; the measure is
--- how many words are left. Assumes nothing.
+-- `recording::words::copy_all` meets its contract. The invariant of its loop is `Copying`; the
+-- measure is how many words are left. Assumes nothing.
 use mathlib.Core.Path.{_≡_}
 use Prim.Native.Nat.{_-_, _≤_}
 use lib.ListN.{length}
@@ -7,8 +7,8 @@ use lib.Seq.{sets}
 use borrow.Author.Needs.{needs}
 use Rattle.recording.specs.Bytes.{wordsAt}
 use Rattle.recording.proofs.WordsLaws.{Copying, copyings}
-use Rattle.recording.proofs.copy_all.Statement.{statement}
-use Rattle.recording.proofs.copy_all.Tie as tie
+use Rattle.recording.proofs.words.copy_all.Statement.{statement}
+use Rattle.recording.proofs.words.copy_all.Tie as tie
 
 abbrev Inv-loop : tie.InvT-loop
 Inv-loop bytes first count words₀ word₀ words word =

@@ -1,10 +1,10 @@
--- `recording::field_at` meets its contract, by the cases of the tag. Assumes nothing.
+-- `recording::field::field_at` meets its contract, by the cases of the tag. Assumes nothing.
 use borrow.Author.Needs.{needs}
 use Rattle.rules.proofs.Cases.{cases}
 use Rattle.recording.specs.Field.{fieldAt}
 use Rattle.recording.proofs.FieldLaws.{theres}
-use Rattle.recording.proofs.field_at.Statement.{statement}
-use Rattle.recording.proofs.field_at.Tie as tie
+use Rattle.recording.proofs.field.field_at.Statement.{statement}
+use Rattle.recording.proofs.field.field_at.Tie as tie
 
 setup-field-requires : tie.Need-setup-field-requires
 setup-field-requires c κs = search (needs, theres)

@@ -1,0 +1,222 @@
+// The fields of a recording: document 01's table of tags. A field is a tag of one byte, a length of
+// two and a value of that length.
+ghost use mathlib.Core.Path.{_≡_};
+ghost use Prim.Native.Nat.{_+_, _≤_};
+ghost use lib.ListN.{length};
+ghost use Rattle.recording.specs.Field.{
+  isTag,
+  lengthFits,
+  setupField,
+  wordField,
+  silenceField,
+  writeField,
+  fieldAt,
+  valueRefusal,
+  ValueThere,
+};
+use crate::bytes;
+
+// What a field holds, in the order of the tags 01 to 07.
+pub enum Field {
+    Setup {
+        station: u8,
+        table: u8,
+        flags: u8,
+    },
+    // marks: bit 0 line, 1 command sync, 2 sound, 3 joined
+    Word {
+        marks: u8,
+        value: u16,
+        time: u32,
+    },
+    Silence {
+        line: u8,
+        time: u32,
+    },
+    QueueRead,
+    // `count` words stand in the input from `first` on, two bytes each, high byte first
+    HostWrite {
+        address: u16,
+        first: usize,
+        count: usize,
+    },
+    Table {
+        table: u8,
+    },
+    Flags {
+        flags: u8,
+    },
+}
+
+// ---- the table of tags
+
+pub(crate) fn is_tag(tag: u8) -> bool
+    ensures { λ known. ⌜ known ≡ isTag tag ⌝ }
+{
+    (1 <= tag) & (tag <= 7)
+}
+
+// Whether a length is the tag's.
+pub(crate) fn length_fits(tag: u8, size: usize) -> bool
+    ensures { λ fits. ⌜ fits ≡ lengthFits tag size ⌝ }
+{
+    if tag == 1 {
+        return size == 3;
+    }
+    if tag == 2 {
+        return size == 7;
+    }
+    if tag == 3 {
+        return size == 5;
+    }
+    if tag == 4 {
+        return size == 0;
+    }
+    if tag == 5 {
+        return (4 <= size) & (size <= 130) & (size % 2 == 0);
+    }
+    size == 1
+}
+
+impl Field {
+    // Refusals 2, 3 and 8 by what the field holds, in that order, and 0 for none. One byte cannot
+    // spell a table block above 255 today; the test for 3 stands where document 01's order has it.
+    pub(crate) fn refusal(self) -> u8
+        ensures { λ number. ⌜ number ≡ valueRefusal self ⌝ }
+    {
+        match self {
+            Field::Setup {
+                station,
+                table,
+                flags,
+            } => {
+                if station > 30 {
+                    return 2;
+                }
+                if table > 255 {
+                    return 3;
+                }
+                if flags > 63 {
+                    return 8;
+                }
+                0
+            }
+            Field::Word {
+                marks,
+                value: _,
+                time: _,
+            } => {
+                if marks > 15 {
+                    return 8;
+                }
+                0
+            }
+            Field::Silence { line, time: _ } => {
+                if line > 1 {
+                    return 8;
+                }
+                0
+            }
+            Field::QueueRead => 0,
+            Field::HostWrite {
+                address,
+                first: _,
+                count,
+            } => {
+                // so many fit on no card, and the sum below cannot go over the top
+                if count > 16384 {
+                    return 8;
+                }
+                if (address as usize) + count > 16384 {
+                    return 8;
+                }
+                0
+            }
+            Field::Table { table } => {
+                if table > 255 {
+                    return 3;
+                }
+                0
+            }
+            Field::Flags { flags } => {
+                if flags > 63 {
+                    return 8;
+                }
+                0
+            }
+        }
+    }
+}
+
+fn setup_field(bytes: &[u8], value: usize) -> Field
+    requires { ⌜ value + 3 ≤ length (now bytes) ⌝ }
+    ensures { λ field. ⌜ field ≡ setupField (now (bytes .entry)) value ⌝ }
+{
+    Field::Setup {
+        station: bytes[value],
+        table: bytes[value + 1],
+        flags: bytes[value + 2],
+    }
+}
+
+fn word_field(bytes: &[u8], value: usize) -> Field
+    requires { ⌜ value + 7 ≤ length (now bytes) ⌝ }
+    ensures { λ field. ⌜ field ≡ wordField (now (bytes .entry)) value ⌝ }
+{
+    Field::Word {
+        marks: bytes[value],
+        value: bytes::word_at(bytes, value + 1),
+        time: bytes::time_at(bytes, value + 3),
+    }
+}
+
+fn silence_field(bytes: &[u8], value: usize) -> Field
+    requires { ⌜ value + 5 ≤ length (now bytes) ⌝ }
+    ensures { λ field. ⌜ field ≡ silenceField (now (bytes .entry)) value ⌝ }
+{
+    Field::Silence {
+        line: bytes[value],
+        time: bytes::time_at(bytes, value + 1),
+    }
+}
+
+fn write_field(bytes: &[u8], value: usize, size: usize) -> Field
+    requires { ⌜ (2 ≤ size) × (value + size ≤ length (now bytes)) ⌝ }
+    ensures { λ field. ⌜ field ≡ writeField (now (bytes .entry)) value size ⌝ }
+{
+    Field::HostWrite {
+        address: bytes::word_at(bytes, value),
+        first: value + 2,
+        count: (size - 2) / 2,
+    }
+}
+
+// The field of a tag. Its value stands whole in the bytes, and has a length of the tag's.
+pub(crate) fn field_at(bytes: &[u8], tag: u8, value: usize, size: usize) -> Field
+    requires { ⌜ ValueThere (now bytes) tag value size ⌝ }
+    ensures { λ field. ⌜ field ≡ fieldAt (now (bytes .entry)) tag value size ⌝ }
+{
+    if tag == 1 {
+        return setup_field(bytes, value);
+    }
+    if tag == 2 {
+        return word_field(bytes, value);
+    }
+    if tag == 3 {
+        return silence_field(bytes, value);
+    }
+    if tag == 4 {
+        return Field::QueueRead;
+    }
+    if tag == 5 {
+        return write_field(bytes, value, size);
+    }
+    if tag == 6 {
+        return Field::Table {
+            table: bytes[value],
+        };
+    }
+    Field::Flags {
+        flags: bytes[value],
+    }
+}
