@@ -63,7 +63,7 @@ use Rattle.actions.specs.Actions.{
   settled,
   setupAction,
 }
-use Rattle.actions.specs.Cut.Refusal.{setupRefusal, aloneRefusal, memoryRefusal}
+use Rattle.actions.specs.AsCoded.Refusal.{setupRefusal, aloneRefusal, memoryRefusal}
 use Rattle.terminal.proofs.SilentLaws.{words-are-silent}
 
 -- ---- what is judged

@@ -1,5 +1,5 @@
 -- The library's actions on a terminal. To be read: `Actions`.
 --     Actions    each action, refusals included
---     Cut        how the code is cut
+--     AsCoded    how the code is cut
 pub mod Actions
-pub mod Cut
+pub mod AsCoded

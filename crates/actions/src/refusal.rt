@@ -3,7 +3,7 @@ ghost use mathlib.Core.Path.{_≡_};
 ghost use lib.Dec.{eqb};
 ghost use Rattle.card.specs.Memory.{cardWords};
 ghost use Rattle.actions.specs.Actions.{fitTerminal};
-ghost use Rattle.actions.specs.Cut.Refusal.{setupRefusal, memoryRefusal, aloneRefusal};
+ghost use Rattle.actions.specs.AsCoded.Refusal.{setupRefusal, memoryRefusal, aloneRefusal};
 use crate::Terminal;
 use card::place::CARD_WORDS;
 

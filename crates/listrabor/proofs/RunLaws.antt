@@ -11,8 +11,8 @@ use Rattle.card.specs.Memory.{cardWords}
 use Rattle.tray.specs.declared.Run.{Run}
 use Rattle.tray.specs.declared.Ran.{Ran}
 use Rattle.tray.specs.Run.{Tray, trayOver}
-use Rattle.tray.specs.Cut.Window.{Passed, windowRun, wholeRoom, mostTurns}
-use Rattle.tray.specs.Cut.Held.{trayOf, runAtStart, passedOf}
+use Rattle.tray.specs.AsCoded.Window.{Passed, windowRun, wholeRoom, mostTurns}
+use Rattle.tray.specs.AsCoded.Held.{trayOf, runAtStart, passedOf}
 use Rattle.tray.proofs.RoomLaws.{whole-tray, whole-count, whole-bytes}
 use Rattle.listrabor.specs.Lent.{sizeRefusal, lent, lentRun}
 use Rattle.listrabor.proofs.TextLaws.{used, refused-answers-0}

@@ -6,7 +6,7 @@ use lib.Dec.{eqb, ltb}
 use borrow.Author.Tests.{eq-eqb, ne-eqb, lt-ltb, le-ltb}
 use Rattle.card.specs.Memory.{cardWords}
 use Rattle.lines.specs.Written.{lineRoom}
-use Rattle.tray.specs.Cut.Window.{wholeRoom}
+use Rattle.tray.specs.AsCoded.Window.{wholeRoom}
 use Rattle.listrabor.specs.Lent.{roomFor, sizeRefusal}
 
 -- ---- the room of a recording

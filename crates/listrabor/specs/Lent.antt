@@ -8,7 +8,7 @@ use lib.ListN.{length}
 use lib.Seq.{sets}
 use Rattle.card.specs.Memory.{cardWords}
 use Rattle.tray.specs.Run.{Whole, trayOver, wholeFrom}
-use Rattle.tray.specs.Cut.Window.{wholeRoom}
+use Rattle.tray.specs.AsCoded.Window.{wholeRoom}
 
 -- how long a buffer has to be for a recording of so many bytes; where that is more than 64 bits
 -- hold, the greatest number that they do, and no buffer is so long

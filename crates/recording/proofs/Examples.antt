@@ -18,8 +18,8 @@ use Rattle.recording.specs.declared.reading.Reading.the-variants.{Taken,
 use Rattle.recording.specs.Bytes.{wordsAt, withWords}
 use Rattle.recording.specs.Field.{lengthFits, fieldAt}
 use Rattle.recording.specs.Reading.{readAt}
-use Rattle.recording.specs.Cut.Found.{wordFound}
-use Rattle.recording.specs.Cut.Pieces.{isSettled, shifted}
+use Rattle.recording.specs.AsCoded.Found.{wordFound}
+use Rattle.recording.specs.AsCoded.Pieces.{isSettled, shifted}
 
 -- ---- document 01's run, field by field
 

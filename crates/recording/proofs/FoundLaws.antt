@@ -1,4 +1,4 @@
--- The laws of `specs/Cut/Found.antt`: what is found on each way that the code takes, and that a
+-- The laws of `specs/AsCoded/Found.antt`: what is found on each way that the code takes, and that a
 -- word field which is found is what the reader reads there (`found-is-read`). Assumes nothing.
 use mathlib.Core.Path.{_≡_, refl, subst}
 use mathlib.Core.Bool.{Bool, true, false, not, _&&_}
@@ -23,7 +23,7 @@ use Rattle.recording.specs.declared.reading.Reading.the-variants.{Taken}
 use Rattle.recording.specs.Bytes.{bytesLeft, byteAt, wordAt, timeAt}
 use Rattle.recording.specs.Field.{lengthFits, fieldAt}
 use Rattle.recording.specs.Reading.{readAt}
-use Rattle.recording.specs.Cut.Found.{startsWord, wordFound}
+use Rattle.recording.specs.AsCoded.Found.{startsWord, wordFound}
 use Rattle.recording.proofs.Choices.{by-test, both-of}
 
 -- ---- as the code looks

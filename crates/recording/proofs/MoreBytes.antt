@@ -23,7 +23,7 @@ use Rattle.recording.specs.declared.reading.Reading.the-variants.{Taken,
 use Rattle.recording.specs.Bytes.{bytesLeft, byteAt, wordAt, timeAt, wordsAt}
 use Rattle.recording.specs.Field.{isTag, lengthFits, fieldAt, valueRefusal, ValueThere}
 use Rattle.recording.specs.Reading.{readAt}
-use Rattle.recording.specs.Cut.Pieces.{isSettled}
+use Rattle.recording.specs.AsCoded.Pieces.{isSettled}
 use Rattle.recording.proofs.Choices.{by-test, same-choice}
 use Rattle.recording.proofs.FieldLaws.{
   by-refusal,

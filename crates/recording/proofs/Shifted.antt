@@ -24,7 +24,7 @@ use Rattle.recording.specs.declared.reading.Reading.{Reading}
 use Rattle.recording.specs.Bytes.{bytesLeft, byteAt, wordAt, timeAt, wordsAt}
 use Rattle.recording.specs.Field.{isTag, lengthFits, fieldAt, valueRefusal}
 use Rattle.recording.specs.Reading.{readAt}
-use Rattle.recording.specs.Cut.Pieces.{shiftedField, shifted}
+use Rattle.recording.specs.AsCoded.Pieces.{shiftedField, shifted}
 use Rattle.recording.proofs.Choices.{choice-under}
 
 -- the shift is seen in no refusal

@@ -5,7 +5,7 @@ ghost use Prim.Native.Nat.{_*_, _≤_};
 ghost use lib.ListN.{length};
 ghost use lib.Seq.{sets};
 ghost use Rattle.recording.specs.Bytes.{bytesLeft, wordsAt, withWords};
-ghost use Rattle.recording.specs.Cut.Found.{wordFound};
+ghost use Rattle.recording.specs.AsCoded.Found.{wordFound};
 use crate::bytes;
 
 // What is found where a word field with certain marks is looked for.

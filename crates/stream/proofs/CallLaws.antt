@@ -14,11 +14,11 @@ use Rattle.tray.specs.declared.Run.{Run}
 use Rattle.tray.specs.declared.Stop.{Stop}
 use Rattle.tray.specs.declared.Stop.the-variants.{Going, Hungry, Full, Over}
 use Rattle.tray.specs.Run.{Tray}
-use Rattle.tray.specs.Cut.Window.{Passed, isGoing, windowRun, keptRest}
-use Rattle.tray.specs.Cut.Held.{trayOf, passedOf}
+use Rattle.tray.specs.AsCoded.Window.{Passed, isGoing, windowRun, keptRest}
+use Rattle.tray.specs.AsCoded.Held.{trayOf, passedOf}
 use Rattle.tray.proofs.EndLaws.{call-inside, call-stops, full-after-a-field}
 use Rattle.stream.specs.declared.Pump.{Pump}
-use Rattle.stream.specs.Cut.Turns.{
+use Rattle.stream.specs.AsCoded.Turns.{
   Buffers,
   RoomToRead,
   ReadOn,

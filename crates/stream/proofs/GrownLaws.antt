@@ -12,7 +12,7 @@ use borrow.Author.Tests.{le-ltb}
 use borrow.Rule.Slice.PartMut.{putMid}
 use Rattle.libc.specs.Io.{Moved}
 use Rattle.io.specs.Counts.{Counts, clamped}
-use Rattle.stream.specs.Cut.Turns.{isFailure, bytesTold, Grown}
+use Rattle.stream.specs.AsCoded.Turns.{isFailure, bytesTold, Grown}
 
 -- a read answers no more than there is room for
 all-told : (answer result : ℤ) (room size : ℕ) → answer ≡ result → Moved room result

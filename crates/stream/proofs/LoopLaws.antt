@@ -1,4 +1,4 @@
--- The loop of `run_input`: the program has come as far as `specs/Cut/Turns.antt` says, a call a turn.
+-- The loop of `run_input`: the program has come as far as `specs/AsCoded/Turns.antt` says, a call a turn.
 -- Assumes nothing.
 use mathlib.Core.Path.{_≡_, refl, _∙_}
 use mathlib.Core.Bool.{Bool, true, false}
@@ -10,12 +10,12 @@ use Rattle.card.specs.Memory.{cardWords}
 use Rattle.queue.specs.Queue.{queuePlaces}
 use Rattle.tray.specs.declared.Run.{Run}
 use Rattle.tray.specs.Run.{Tray, trayAtStart}
-use Rattle.tray.specs.Cut.Held.{trayOf, runAtStart}
+use Rattle.tray.specs.AsCoded.Held.{trayOf, runAtStart}
 use Rattle.stream.specs.declared.Pump.{Pump}
 use Rattle.stream.specs.declared.Done.{Done}
 use Rattle.stream.specs.Progress.{bufferBytes, starts}
 use Rattle.stream.specs.Came.{allTurns, Came, spent}
-use Rattle.stream.specs.Cut.Turns.{Reached, Pumped, going, over, Buffers, Turned}
+use Rattle.stream.specs.AsCoded.Turns.{Reached, Pumped, going, over, Buffers, Turned}
 use Rattle.stream.proofs.ProgressLaws.{few-turns}
 
 -- what the loop keeps, with so many turns left

@@ -8,7 +8,7 @@ use native.Mathlib.Omega.{arith}
 use lib.ListN.{length, drop, length-append, length-drop}
 use Rattle.tray.specs.declared.Stop.the-variants.{Hungry}
 use Rattle.tray.specs.Run.{Tray}
-use Rattle.tray.specs.Cut.Pieces.{Streamed, begins, reads, ends, calls}
+use Rattle.tray.specs.AsCoded.Pieces.{Streamed, begins, reads, ends, calls}
 use Rattle.tray.proofs.EndLaws.{call-within, last-call-waits-not}
 use Rattle.stream.specs.Progress.{
   Far,

@@ -17,7 +17,7 @@ use Rattle.lines.specs.Written.{lineRoom}
 use Rattle.tray.specs.declared.Stop.{Stop}
 use Rattle.tray.specs.declared.Stop.the-variants.{Going, Hungry, Full, Over}
 use Rattle.tray.specs.Run.{Tray, wholeOf, wholeBy, wholeFrom}
-use Rattle.tray.specs.Cut.Window.{Passed, isGoing, mostTurns, stoppedAt, passing, windowRun}
+use Rattle.tray.specs.AsCoded.Window.{Passed, isGoing, mostTurns, stoppedAt, passing, windowRun}
 use Rattle.tray.proofs.EndLaws.{
   turns-keep,
   by-turn,

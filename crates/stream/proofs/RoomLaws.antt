@@ -13,13 +13,13 @@ use borrow.Author.Tests.{eqb-true}
 use Rattle.recording.specs.declared.reading.Reading.{Reading}
 use Rattle.recording.specs.declared.reading.Reading.the-variants.{Taken, End, Refused}
 use Rattle.recording.specs.Reading.{readAt}
-use Rattle.recording.specs.Cut.Pieces.{isSettled}
+use Rattle.recording.specs.AsCoded.Pieces.{isSettled}
 use Rattle.recording.proofs.Choices.{both-of}
 use Rattle.recording.proofs.TakenLaws.{isReaderNumber, refused-names-place}
 use Rattle.recording.proofs.MoreBytes.{settled-by-133}
 use Rattle.tray.specs.declared.Stop.the-variants.{Going, Hungry, Full, Over}
 use Rattle.tray.specs.Run.{Tray}
-use Rattle.tray.specs.Cut.Window.{
+use Rattle.tray.specs.AsCoded.Window.{
   Passed,
   mayGoOn,
   stoppedAt,

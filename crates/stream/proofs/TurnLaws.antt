@@ -13,7 +13,7 @@ use borrow.Author.Tests.{eqb-true, eqb-false}
 use Rattle.tray.specs.declared.Stop.{Stop}
 use Rattle.tray.specs.declared.Stop.the-variants.{Going, Hungry, Full, Over}
 use Rattle.tray.specs.Run.{Tray}
-use Rattle.tray.specs.Cut.Held.{trayOf}
+use Rattle.tray.specs.AsCoded.Held.{trayOf}
 use Rattle.stream.specs.declared.Heard.{Heard}
 use Rattle.stream.specs.declared.Pump.{Pump}
 use Rattle.stream.specs.Progress.{
@@ -28,7 +28,7 @@ use Rattle.stream.specs.Progress.{
   finds-end,
 }
 use Rattle.stream.specs.Came.{LastCall, finished, broken-off, unread}
-use Rattle.stream.specs.Cut.Turns.{
+use Rattle.stream.specs.AsCoded.Turns.{
   Reached,
   Pumped,
   going,

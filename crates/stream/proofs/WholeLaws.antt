@@ -8,8 +8,8 @@ use native.Mathlib.Omega.{arith}
 use lib.ListN.{length}
 use Rattle.tray.specs.declared.Stop.the-variants.{Over}
 use Rattle.tray.specs.Run.{Tray, trayAtStart, whole, wholeFrom}
-use Rattle.tray.specs.Cut.Pieces.{linesOf, Streamed, begins, reads, ends, calls, Finished}
-use Rattle.tray.specs.Cut.Window.{windowRun}
+use Rattle.tray.specs.AsCoded.Pieces.{linesOf, Streamed, begins, reads, ends, calls, Finished}
+use Rattle.tray.specs.AsCoded.Window.{windowRun}
 use Rattle.tray.proofs.EndLaws.{unread-untouched}
 use Rattle.tray.proofs.PieceLaws.{finished-prints}
 use Rattle.stream.specs.Progress.{Far, Progressed}

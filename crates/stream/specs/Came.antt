@@ -8,7 +8,7 @@ use mathlib.Core.List.{List}
 use Prim.Native.Nat.{ℕ, _≤_}
 use Rattle.tray.specs.declared.Stop.the-variants.{Hungry, Over}
 use Rattle.tray.specs.Run.{Tray}
-use Rattle.tray.specs.Cut.Window.{Passed}
+use Rattle.tray.specs.AsCoded.Window.{Passed}
 use Rattle.stream.specs.Progress.{Far, callAt, Progressed, turnsFor}
 
 -- the last call came to `new`; before it the program had come so far

@@ -1,7 +1,7 @@
 -- A run of standard input. To be read: `Progress` and `Came`.
 --     Progress    how far it has come, turn by turn
 --     Came        how it ends
---     Cut         how the code is cut
+--     AsCoded     how the code is cut
 pub mod Progress
 pub mod Came
-pub mod Cut
+pub mod AsCoded

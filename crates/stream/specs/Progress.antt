@@ -8,8 +8,8 @@ use Prim.Native.Nat.{ℕ, suc, _+_, _-_, _<_}
 use lib.ListN.{length, drop}
 use Rattle.tray.specs.declared.Stop.the-variants.{Hungry, Full}
 use Rattle.tray.specs.Run.{Tray}
-use Rattle.tray.specs.Cut.Window.{Passed, windowRun}
-use Rattle.tray.specs.Cut.Pieces.{linesOf}
+use Rattle.tray.specs.AsCoded.Window.{Passed, windowRun}
+use Rattle.tray.specs.AsCoded.Pieces.{linesOf}
 
 -- the window has so many bytes, and so has the buffer for the lines
 abbrev pub bufferBytes : ℕ

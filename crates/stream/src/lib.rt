@@ -7,9 +7,9 @@ ghost use mathlib.Core.Bool.{true};
 ghost use Prim.Native.Nat.{_≤_, _<_};
 ghost use lib.ListN.{length};
 ghost use Rattle.tray.specs.Run.{trayAtStart};
-ghost use Rattle.tray.specs.Cut.Held.{trayOf};
+ghost use Rattle.tray.specs.AsCoded.Held.{trayOf};
 ghost use Rattle.stream.specs.Came.{Came};
-ghost use Rattle.stream.specs.Cut.Turns.{
+ghost use Rattle.stream.specs.AsCoded.Turns.{
   Buffers,
   RoomToRead,
   isFailure,

@@ -1,4 +1,4 @@
--- The laws of `specs/WordStep.antt`, `specs/SilenceStep.antt` and `specs/Cut/Deed.antt`, as the code
+-- The laws of `specs/WordStep.antt`, `specs/SilenceStep.antt` and `specs/AsCoded/Deed.antt`, as the code
 -- does what was decided: a law for each deed, and deeds come to what the acts ask. Assumes nothing.
 use mathlib.Core.Path.{_≡_, refl, sym, ap, _∙_}
 use mathlib.Core.Bool.{Bool, true, false, cond, not}
@@ -36,7 +36,7 @@ use Rattle.terminal.specs.Closing.{faulted, ended}
 use Rattle.terminal.specs.Event.{shown, seen, replied, opens, quietly}
 use Rattle.terminal.specs.WordStep.{wordDone, wordMet, wordStep}
 use Rattle.terminal.specs.SilenceStep.{silenceDone, silenceMet, silenceStep}
-use Rattle.terminal.specs.Cut.Deed.{
+use Rattle.terminal.specs.AsCoded.Deed.{
   actOnMessage,
   actOn,
   wordDeed,

@@ -1,5 +1,5 @@
 -- The terminal of document 01, in its order; its open message is in the crate `message`. Lay it
--- beside the paper, file by file; of `Cut` nothing has to be read.
+-- beside the paper, file by file; of `AsCoded` nothing has to be read.
 --     State          what is held, a setter for each field, setup
 --     Opening        what an opening does
 --     Closing        closing, faults, and the sound end
@@ -9,7 +9,7 @@
 --     SilenceStep    what silence decides is done
 --     Machine        one step for each event, and a run
 --     Fitness        refusal 4: which states are fit
---     Cut            how the code is cut
+--     AsCoded        how the code is cut
 pub mod State
 pub mod Opening
 pub mod Closing
@@ -19,4 +19,4 @@ pub mod WordStep
 pub mod SilenceStep
 pub mod Machine
 pub mod Fitness
-pub mod Cut
+pub mod AsCoded

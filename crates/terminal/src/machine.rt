@@ -8,7 +8,7 @@ ghost use Rattle.terminal.specs.State.{card, withMessage, holding, cardO
 ghost use Rattle.terminal.specs.Event.{shown, seen, replied};
 ghost use Rattle.terminal.specs.WordStep.{wordStep};
 ghost use Rattle.terminal.specs.SilenceStep.{silenceDone, silenceStep};
-ghost use Rattle.terminal.specs.Cut.Deed.{actOn, wordDeed, doneBy, opensBy, replyTo};
+ghost use Rattle.terminal.specs.AsCoded.Deed.{actOn, wordDeed, doneBy, opensBy, replyTo};
 use crate::state::Core;
 use crate::state::Heard;
 use crate::state::Held;

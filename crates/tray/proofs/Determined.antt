@@ -4,8 +4,8 @@
 use denote.Ref.{now}
 use Rattle.rules.proofs.Determined.{Determined, DeterminedAs, same}
 use Rattle.lines.specs.Written.{Put, put}
-use Rattle.tray.specs.Cut.Window.{Passed}
-use Rattle.tray.specs.Cut.Held.{passedOf}
+use Rattle.tray.specs.AsCoded.Window.{Passed}
+use Rattle.tray.specs.AsCoded.Held.{passedOf}
 use Rattle.tray.proofs.Run.at_start.Kinds as at-start-kinds
 use Rattle.tray.proofs.Run.at_start.Reads as at-start-reads
 use Rattle.tray.proofs.run_window.Kinds as run-window-kinds

@@ -19,7 +19,7 @@ use Rattle.lines.proofs.WrittenLaws.{length-written}
 use Rattle.tray.specs.declared.Stop.{Stop}
 use Rattle.tray.specs.declared.Stop.the-variants.{Going, Hungry, Full, Over}
 use Rattle.tray.specs.Run.{Tray, lastLine, taking, takingLine}
-use Rattle.tray.specs.Cut.Window.{
+use Rattle.tray.specs.AsCoded.Window.{
   Passed,
   stopping,
   mayGoOn,

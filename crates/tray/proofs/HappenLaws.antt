@@ -43,7 +43,7 @@ use Rattle.recording.specs.Bytes.{wordsAt, withWords}
 use Rattle.recording.proofs.WordsLaws.{front-of-copy}
 use Rattle.tray.specs.declared.Happened.{Happened}
 use Rattle.tray.specs.Happening.{happeningOf, happened}
-use Rattle.tray.specs.Cut.Held.{WordsIn, WordsThere}
+use Rattle.tray.specs.AsCoded.Held.{WordsIn, WordsThere}
 
 abbrev quiet : Core → Ring → Happened
 quiet core ring =

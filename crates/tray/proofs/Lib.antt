@@ -1,4 +1,5 @@
--- The mathematics of a tray run. Read `PieceLaws` first: any pieces print what the whole prints.
+-- The mathematics of a tray run. Read `Theorems`: what is proved.
+--     Theorems      the statements, by name
 --     HappenLaws    what a field tells comes about: a law for each kind of field
 --     LineLaws      the line of an answer, and the last line
 --     TurnLaws      one field of a window, as the code takes it
@@ -23,6 +24,7 @@
 --     AnswerLaws    every list of bytes gets an answer and an end
 --     OneBlock      one broken message costs one block, over recordings
 --     Determined    each public contract allows one outcome alone
+mod Theorems
 pub mod HappenLaws
 pub mod LineLaws
 pub mod TurnLaws

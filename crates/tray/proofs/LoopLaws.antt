@@ -10,9 +10,9 @@ use borrow.Author.Tests.{not-true, not-false}
 use Rattle.tray.specs.declared.Ran.{Ran}
 use Rattle.tray.specs.declared.Stop.{Stop}
 use Rattle.tray.specs.declared.Stop.the-variants.{Going, Hungry, Full, Over}
-use Rattle.tray.specs.Cut.Window.{Passed, isGoing, turn, turns}
-use Rattle.tray.specs.Cut.Held.{passedOf}
-use Rattle.tray.specs.Cut.Row.{RowTaken}
+use Rattle.tray.specs.AsCoded.Window.{Passed, isGoing, turn, turns}
+use Rattle.tray.specs.AsCoded.Held.{passedOf}
+use Rattle.tray.specs.AsCoded.Row.{RowTaken}
 use Rattle.tray.proofs.WordTurns.{one-turn}
 use Rattle.tray.proofs.RowTurns.{turn-left, fewer-left}
 

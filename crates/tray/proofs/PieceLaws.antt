@@ -7,8 +7,8 @@ use Prim.Native.Nat.{ℕ}
 use native.Mathlib.Omega.{arith}
 use lib.ListN.{drop}
 use Rattle.tray.specs.Run.{Tray, trayAtStart, Whole, whole, withLine, wholeFrom, printed}
-use Rattle.tray.specs.Cut.Window.{Passed, windowRun}
-use Rattle.tray.specs.Cut.Pieces.{linesOf, Streamed, begins, reads, ends, calls, Finished}
+use Rattle.tray.specs.AsCoded.Window.{Passed, windowRun}
+use Rattle.tray.specs.AsCoded.Pieces.{linesOf, Streamed, begins, reads, ends, calls, Finished}
 use Rattle.tray.proofs.WindowLaws.{call-goes-on, call-is-over}
 
 -- what was printed of the pieces so far, and what is made of what is left, is what is made of the

@@ -34,7 +34,7 @@ use Rattle.tray.specs.declared.Stop.{Stop}
 use Rattle.tray.specs.declared.Stop.the-variants.{Going, Hungry, Full, Over}
 use Rattle.tray.specs.Happening.{happeningOf, happened}
 use Rattle.tray.specs.Run.{Tray, Whole, whole, wholeFrom, lastLine, takingLine}
-use Rattle.tray.specs.Cut.Window.{
+use Rattle.tray.specs.AsCoded.Window.{
   Passed,
   stoppedAt,
   stopsAt,
@@ -46,7 +46,7 @@ use Rattle.tray.specs.Cut.Window.{
   windowRun,
   wholeRoom,
 }
-use Rattle.tray.specs.Cut.Pieces.{linesOf}
+use Rattle.tray.specs.AsCoded.Pieces.{linesOf}
 use Rattle.tray.proofs.PrintedLaws.{taking-line-fits, last-line-fits}
 use Rattle.tray.proofs.WindowLaws.{call-is-over}
 use Rattle.tray.proofs.EndLaws.{

@@ -1,4 +1,4 @@
--- The laws of `specs/Cut/Row.antt`, as the code takes a row: the loop that stores it, how many words
+-- The laws of `specs/AsCoded/Row.antt`, as the code takes a row: the loop that stores it, how many words
 -- are wanted, and the run behind it. Assumes nothing.
 use mathlib.Core.Path.{_≡_, refl, _∙_}
 use mathlib.Core.Bool.{Bool, true, false, not}
@@ -23,11 +23,11 @@ use Rattle.terminal.specs.declared.state.Core.{Core}
 use Rattle.terminal.specs.State.{withMessage}
 use Rattle.recording.specs.declared.words.Found.{Found}
 use Rattle.recording.specs.declared.words.Found.the-variants.{Value, Nothing}
-use Rattle.recording.specs.Cut.Found.{wordFound}
+use Rattle.recording.specs.AsCoded.Found.{wordFound}
 use Rattle.tray.specs.declared.row.Row.{Row}
 use Rattle.tray.specs.declared.Ran.{Ran}
-use Rattle.tray.specs.Cut.Window.{takes}
-use Rattle.tray.specs.Cut.Row.{stored, rowWith, rowStored, wantedBy, ranAfter}
+use Rattle.tray.specs.AsCoded.Window.{takes}
+use Rattle.tray.specs.AsCoded.Row.{stored, rowWith, rowStored, wantedBy, ranAfter}
 
 -- ---- the loop
 

@@ -24,15 +24,15 @@ use Rattle.message.proofs.AskedBounds.{takes-at-most}
 use Rattle.terminal.specs.State.{withMessage}
 use Rattle.recording.specs.declared.words.Found.{Found}
 use Rattle.recording.specs.declared.words.Found.the-variants.{Value, Nothing}
-use Rattle.recording.specs.Cut.Found.{wordFound}
+use Rattle.recording.specs.AsCoded.Found.{wordFound}
 use Rattle.recording.proofs.Choices.{both-of}
 use Rattle.lines.specs.Written.{lineRoom, mostWords}
 use Rattle.tray.specs.declared.row.Row.{Row}
 use Rattle.tray.specs.declared.Ran.{Ran}
 use Rattle.tray.specs.declared.Stop.the-variants.{Going}
-use Rattle.tray.specs.Cut.Window.{takes, turns}
-use Rattle.tray.specs.Cut.Held.{passedOf}
-use Rattle.tray.specs.Cut.Row.{
+use Rattle.tray.specs.AsCoded.Window.{takes, turns}
+use Rattle.tray.specs.AsCoded.Held.{passedOf}
+use Rattle.tray.specs.AsCoded.Row.{
   Stored,
   stored,
   wordStored,

@@ -13,7 +13,7 @@ use Rattle.recording.specs.Reading.{readAt}
 use Rattle.lines.specs.Written.{lineRoom}
 use Rattle.tray.specs.declared.Stop.the-variants.{Full}
 use Rattle.tray.specs.Run.{Tray}
-use Rattle.tray.specs.Cut.Window.{
+use Rattle.tray.specs.AsCoded.Window.{
   Passed,
   stopping,
   takes,
@@ -24,7 +24,7 @@ use Rattle.tray.specs.Cut.Window.{
   mostTurns,
   windowRun,
 }
-use Rattle.tray.specs.Cut.Pieces.{Streamed, begins, reads, ends, calls, Finished}
+use Rattle.tray.specs.AsCoded.Pieces.{Streamed, begins, reads, ends, calls, Finished}
 use Rattle.tray.specs.Sound.{SoundTray}
 use Rattle.tray.proofs.SoundLaws.{taking-is-sound}
 

@@ -1,4 +1,4 @@
--- The laws of `specs/Cut/Window.antt`, as the code takes one field of a window. Assumes nothing.
+-- The laws of `specs/AsCoded/Window.antt`, as the code takes one field of a window. Assumes nothing.
 use mathlib.Core.Path.{_≡_, sym, ap, _∙_}
 use mathlib.Core.Bool.{Bool, true}
 use mathlib.Core.List.{List}
@@ -22,9 +22,9 @@ use Rattle.tray.specs.declared.Stop.{Stop}
 use Rattle.tray.specs.declared.Stop.the-variants.{Going, Full, Over}
 use Rattle.tray.specs.Happening.{happeningOf, happened}
 use Rattle.tray.specs.Run.{answerLine, taking, takingLine}
-use Rattle.tray.specs.Cut.Window.{Passed, stopped, stoppedAt, takes, passing, turn}
+use Rattle.tray.specs.AsCoded.Window.{Passed, stopped, stoppedAt, takes, passing, turn}
 use Rattle.terminal.specs.State.{cardOf}
-use Rattle.tray.specs.Cut.Held.{passedOf, WordsThere, WasRead}
+use Rattle.tray.specs.AsCoded.Held.{passedOf, WordsThere, WasRead}
 
 -- ---- a field that is taken
 

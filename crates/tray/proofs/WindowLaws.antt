@@ -23,7 +23,7 @@ use Rattle.recording.specs.declared.field.Field.the-variants.{
 }
 use Rattle.recording.specs.declared.reading.Reading.{Reading}
 use Rattle.recording.specs.declared.reading.Reading.the-variants.{Taken, End, Refused}
-use Rattle.recording.specs.Cut.Pieces.{shiftedField, shifted}
+use Rattle.recording.specs.AsCoded.Pieces.{shiftedField, shifted}
 use Rattle.recording.specs.Reading.{readAt}
 use Rattle.recording.proofs.TakenLaws.{taken-within}
 use Rattle.recording.proofs.TakenWords.{more-bytes-same-words}
@@ -45,7 +45,7 @@ use Rattle.tray.specs.Run.{
   wholeOf,
   wholeFrom,
 }
-use Rattle.tray.specs.Cut.Window.{
+use Rattle.tray.specs.AsCoded.Window.{
   Passed,
   mayGoOn,
   stoppedAt,
@@ -57,7 +57,7 @@ use Rattle.tray.specs.Cut.Window.{
   mostTurns,
   windowRun,
 }
-use Rattle.tray.specs.Cut.Pieces.{linesOf}
+use Rattle.tray.specs.AsCoded.Pieces.{linesOf}
 use Rattle.tray.proofs.PrintedLaws.{
   taking-line-fits,
   last-line-fits,

@@ -24,16 +24,16 @@ use Rattle.bus.specs.Word.{wordOf}
 use Rattle.recording.specs.declared.words.Found.{Found}
 use Rattle.recording.specs.declared.words.Found.the-variants.{Value, Nothing}
 use Rattle.recording.specs.Bytes.{timeAt}
-use Rattle.recording.specs.Cut.Found.{wordFound}
+use Rattle.recording.specs.AsCoded.Found.{wordFound}
 use Rattle.recording.proofs.FoundLaws.{found-is-read, found-moves-on}
 use Rattle.lines.specs.Written.{lineRoom}
 use Rattle.tray.specs.declared.Ran.{Ran}
 use Rattle.tray.specs.declared.Stop.the-variants.{Going}
 use Rattle.tray.specs.Happening.{happeningOf, happened}
 use Rattle.tray.specs.Run.{taking, takingLine}
-use Rattle.tray.specs.Cut.Window.{Passed, takes, passing, turn, turns}
-use Rattle.tray.specs.Cut.Held.{passedOf}
-use Rattle.tray.specs.Cut.Row.{Stored, wordStored, rowFrom, rowStored, marksOn, ranAfter}
+use Rattle.tray.specs.AsCoded.Window.{Passed, takes, passing, turn, turns}
+use Rattle.tray.specs.AsCoded.Held.{passedOf}
+use Rattle.tray.specs.AsCoded.Row.{Stored, wordStored, rowFrom, rowStored, marksOn, ranAfter}
 use Rattle.tray.proofs.LineLaws.{nothing-written}
 
 -- ---- a word that is wanted

@@ -1,4 +1,4 @@
--- A tray run. Read `Run` first: what a recording prints. To be read: all but `Cut`.
+-- A tray run. Read `Run` first: what a recording prints. To be read: all but `AsCoded`.
 --     Happening    what a field tells, and what comes of it
 --     Run          a run of a recording, its text and how far it comes
 --     Sound        a tray that no action of the library refuses by 1 or 4
@@ -6,7 +6,7 @@
 --     Accepted     what the reader takes of some bytes, and recordings that it takes whole
 --     Answered     an answer and an end: what a run makes of any bytes
 --     OneBlock     one broken message costs one block, over recordings
---     Cut          how the code is cut: windows, rows, pieces
+--     AsCoded      how the code is cut: windows, rows, pieces
 pub mod Happening
 pub mod Run
 pub mod Sound
@@ -14,4 +14,4 @@ pub mod ByActions
 pub mod Accepted
 pub mod Answered
 pub mod OneBlock
-pub mod Cut
+pub mod AsCoded

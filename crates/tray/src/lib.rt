@@ -10,7 +10,7 @@ ghost use Rattle.terminal.specs.Event.{shown, replied};
 ghost use Rattle.lines.specs.Written.{put};
 ghost use Rattle.recording.specs.Bytes.{wordsAt};
 ghost use Rattle.tray.specs.Happening.{happeningOf, happened};
-ghost use Rattle.tray.specs.Cut.Window.{
+ghost use Rattle.tray.specs.AsCoded.Window.{
   isGoing,
   stopped,
   stoppedAt,
@@ -20,7 +20,7 @@ ghost use Rattle.tray.specs.Cut.Window.{
   keptRest,
 };
 ghost use Rattle.terminal.specs.State.{cardOf};
-ghost use Rattle.tray.specs.Cut.Held.{
+ghost use Rattle.tray.specs.AsCoded.Held.{
   trayOf,
   runAtStart,
   passedOf,

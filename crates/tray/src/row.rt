@@ -1,7 +1,7 @@
 // A row of data words, taken at once: three quarters of the fields of a busy rack are such words.
 ghost use mathlib.Core.Path.{_≡_};
 ghost use Prim.Native.Nat.{_-_, _<_};
-ghost use Rattle.tray.specs.Cut.Row.{
+ghost use Rattle.tray.specs.AsCoded.Row.{
   stored,
   rowWith,
   rowStored,

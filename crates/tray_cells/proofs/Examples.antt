@@ -8,7 +8,7 @@ use Rattle.queue.specs.Queue.{ringOf}
 use Rattle.message.specs.declared.state.Stage.the-variants.{AwaitingStatus}
 use Rattle.message.specs.declared.state.Second.the-variants.{Command}
 use Rattle.message.specs.declared.state.Message.the-variants.{Idle, Open}
-use Rattle.tray.specs.Cut.Held.{runAtStart}
+use Rattle.tray.specs.AsCoded.Held.{runAtStart}
 use Rattle.lines.specs.Digits.{hexDigit, hexByte, hexWord, decimal, decimalBy}
 use Rattle.lines.specs.Written.{put, stored}
 use Rattle.tray_cells.specs.Text.{bytes, fitted}

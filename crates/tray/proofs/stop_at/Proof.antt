@@ -2,7 +2,7 @@
 use borrow.Author.Needs.{needs}
 use Rattle.rules.proofs.Cases.{cases}
 use Rattle.tray.proofs.TurnLaws.{over-line}
-use Rattle.tray.specs.Cut.Window.{stoppedAt}
+use Rattle.tray.specs.AsCoded.Window.{stoppedAt}
 use Rattle.tray.proofs.stop_at.Statement.{statement}
 use Rattle.tray.proofs.stop_at.Tie as tie
 

@@ -1,6 +1,6 @@
 -- `tray::Run::at_start` meets its contract, by computation. Assumes nothing.
 use borrow.Author.Needs.{needs}
-use Rattle.tray.specs.Cut.Held.{runAtStart}
+use Rattle.tray.specs.AsCoded.Held.{runAtStart}
 use Rattle.tray.proofs.Run.at_start.Statement.{statement}
 use Rattle.tray.proofs.Run.at_start.Tie as tie
 

@@ -11,7 +11,7 @@ use Rattle.recording.specs.Bytes.{bytesLeft}
 use Rattle.tray.specs.declared.Run.{Run}
 use Rattle.tray.specs.declared.Ran.{Ran}
 use Rattle.tray.specs.Run.{Tray}
-use Rattle.tray.specs.Cut.Window.{Passed}
+use Rattle.tray.specs.AsCoded.Window.{Passed}
 
 -- the queue's places and the RAM are lent
 abbrev pub trayOf : Run → List ℕ → List ℕ → Tray

@@ -21,14 +21,14 @@ use Rattle.message.specs.Asked.{asks}
 use Rattle.terminal.specs.State.{withMessage}
 use Rattle.recording.specs.declared.words.Found.{Found}
 use Rattle.recording.specs.declared.words.Found.the-variants.{Value, Nothing}
-use Rattle.recording.specs.Cut.Found.{wordFound}
+use Rattle.recording.specs.AsCoded.Found.{wordFound}
 use Rattle.lines.specs.Written.{lineRoom, mostWords}
 use Rattle.tray.specs.declared.row.Row.{Row}
 use Rattle.tray.specs.declared.Ran.{Ran}
 use Rattle.tray.specs.declared.Stop.the-variants.{Going}
 use Rattle.tray.specs.Run.{counted}
-use Rattle.tray.specs.Cut.Window.{turns}
-use Rattle.tray.specs.Cut.Held.{passedOf}
+use Rattle.tray.specs.AsCoded.Window.{turns}
+use Rattle.tray.specs.AsCoded.Held.{passedOf}
 
 -- the numbers that a data word changes, and the RAM
 pub record Stored : Type 0 where

@@ -11,7 +11,7 @@ use lib.ListN.{length, take, drop}
 use Rattle.tray.specs.declared.Stop.{Stop}
 use Rattle.tray.specs.declared.Stop.the-variants.{Going, Hungry, Full, Over}
 use Rattle.tray.specs.Run.{Tray}
-use Rattle.tray.specs.Cut.Window.{windowRun}
+use Rattle.tray.specs.AsCoded.Window.{windowRun}
 use Rattle.stream.specs.declared.Heard.{Heard}
 use Rattle.stream.specs.declared.Pump.{Pump}
 use Rattle.stream.specs.Progress.{bufferBytes, Progressed}

@@ -9,7 +9,7 @@ use Prim.Native.Nat.{ℕ}
 use lib.ListN.{take, drop}
 use Rattle.tray.specs.declared.Stop.the-variants.{Over}
 use Rattle.tray.specs.Run.{Tray}
-use Rattle.tray.specs.Cut.Window.{Passed, windowRun}
+use Rattle.tray.specs.AsCoded.Window.{Passed, windowRun}
 
 -- what a call prints
 abbrev pub linesOf : Passed → List ℕ

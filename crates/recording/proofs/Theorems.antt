@@ -1,0 +1,42 @@
+-- The theorems over the reader, each by its statement. The words are those of `specs/`; the proofs
+-- stand in the files that are cited. Assumes nothing.
+use mathlib.Core.Path.{_≡_}
+use mathlib.Core.Bool.{Bool, true}
+use mathlib.Core.List.{List, _++_}
+use Prim.Native.Nat.{ℕ, _+_, _≤_}
+use lib.ListN.{length}
+use Rattle.recording.specs.declared.field.Field.{Field}
+use Rattle.recording.specs.declared.reading.Reading.the-variants.{Taken}
+use Rattle.recording.specs.Reading.{readAt}
+use Rattle.recording.specs.AsCoded.Pieces.{isSettled}
+use Rattle.recording.proofs.TakenLaws.{Tells, Within}
+use Rattle.recording.proofs.InOrder.{InOrder}
+use Rattle.recording.proofs.TakenLaws as taken
+use Rattle.recording.proofs.InOrder as order
+use Rattle.recording.proofs.MoreBytes as more
+
+-- what a reading tells: a field passed every test, the end is the end of the bytes, and a refusal
+-- names the field that it stands at by one of document 01's numbers
+reading-tells : (bytes : List ℕ) (place : ℕ) (begun : Bool)
+    → Tells bytes place begun (readAt bytes place begun)
+reading-tells = taken.reading-tells
+
+-- a field that is taken lies within the bytes, has a byte at least and 133 at the most
+taken-within : (bytes : List ℕ) (place : ℕ) (begun : Bool) {field : Field} {next : ℕ}
+    → readAt bytes place begun ≡ Taken field next → Within bytes place next
+taken-within = taken.taken-within
+
+-- .. and is in order
+taken-in-order : (bytes : List ℕ) (place : ℕ) (begun : Bool) {field : Field} {next : ℕ}
+    → readAt bytes place begun ≡ Taken field next → InOrder place next field
+taken-in-order = order.taken-in-order
+
+-- 133 bytes settle a reading, and no bytes that come behind change one that is settled
+settled-by-133 : (bytes : List ℕ) (place : ℕ) (begun : Bool) → place + 133 ≤ length bytes
+    → isSettled (readAt bytes place begun) ≡ true
+settled-by-133 = more.settled-by-133
+
+settled-stays : (front back : List ℕ) (place : ℕ) (begun : Bool)
+    → isSettled (readAt front place begun) ≡ true
+    → readAt (front ++ back) place begun ≡ readAt front place begun
+settled-stays = more.settled-stays
