@@ -2,6 +2,8 @@
 use Rattle.rules.proofs.Determined.{Determined, same}
 use Rattle.message.proofs.asked.asked_of.Kinds as asked-of-kinds
 use Rattle.message.proofs.asked.asked_of.Reads as asked-of-reads
+use Rattle.message.proofs.state.OpenMessage.wants.Kinds as wants-kinds
+use Rattle.message.proofs.state.OpenMessage.wants.Reads as wants-reads
 use Rattle.message.proofs.state.OpenMessage.asks.Kinds as asks-kinds
 use Rattle.message.proofs.state.OpenMessage.asks.Reads as asks-reads
 use Rattle.message.proofs.judge.is_own.Kinds as is-own-kinds
@@ -25,6 +27,9 @@ use Rattle.message.proofs.fitness.is_fit_message.Reads as is-fit-messag
 
 pub asked-of : Determined 0 asked-of-kinds.ps asked-of-kinds.r asked-of-reads.Post
 asked-of κs arguments result result′ exit exit′ = same
+
+pub wants : Determined 0 wants-kinds.ps wants-kinds.r wants-reads.Post
+wants κs arguments result result′ exit exit′ = same
 
 pub asks : Determined 0 asks-kinds.ps asks-kinds.r asks-reads.Post
 asks κs arguments result result′ exit exit′ = same

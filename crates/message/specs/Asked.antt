@@ -1,6 +1,6 @@
 -- What a command asks of the card: document 01's "Block" and "Mode codes". Definitions only.
 -- Assumes nothing.
-use mathlib.Core.Bool.{Bool, true, false, cond}
+use mathlib.Core.Bool.{Bool, true, false, cond, _&&_}
 use Prim.Native.Nat.{ℕ, _+_}
 use lib.Dec.{eqb}
 use Rattle.bus.specs.declared.kind.Kind.{Kind}
@@ -128,3 +128,7 @@ askedOf command = askedBy (kindOf command) command
 -- what the command of an open message asks
 abbrev pub asks : OpenMessage → Asked
 asks message = askedOf (message .command)
+
+-- under busy the words of a command that yields are neither stored nor sent
+abbrev pub keepsBack : Asked → OpenMessage → Bool
+keepsBack asked message = message .busy && asked .yields

@@ -26,6 +26,7 @@ use Rattle.message.specs.declared.state.Stage.the-variants.{
 use Rattle.message.specs.declared.state.OpenMessage.{OpenMessage}
 use Rattle.bus.specs.declared.word.Word.{Word}
 use Rattle.message.specs.Message.{hasSecond, secondOf}
+use Rattle.message.specs.Asked.{keepsBack}
 
 -- ---- own commands
 
@@ -70,7 +71,7 @@ inData station asked message word =
     (word .sync && asked .receive && eqb (message .taken) 0 && not (hasSecond (message .second)))
     (firstCommand station (message .command) (word .value))
     (cond (word .sync) (Fault 6)
-    (cond (message .busy && asked .yields)
+    (cond (keepsBack asked message)
     (Check (message .taken + 1))
     (Store (message .taken + 1)))))))
 

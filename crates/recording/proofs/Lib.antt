@@ -6,6 +6,7 @@
 --     WordsLaws      the words of a host write, one by one
 --     TakenLaws      what a reading tells: where a field ends, whom a refusal names
 --     FoundLaws      a word field that is looked for is what the reader reads
+--     OfBytes        of bytes the reader never gives 3
 --     InOrder        every field that is taken is in order
 --     MoreBytes      bytes that come behind change no reading that is settled
 --     TakenWords     the words of a host write that was taken
@@ -19,6 +20,7 @@ pub mod ReadingLaws
 pub mod WordsLaws
 pub mod TakenLaws
 pub mod FoundLaws
+pub mod OfBytes
 pub mod InOrder
 pub mod MoreBytes
 pub mod TakenWords

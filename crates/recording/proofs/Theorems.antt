@@ -3,15 +3,18 @@
 use mathlib.Core.Path.{_≡_}
 use mathlib.Core.Bool.{Bool, true}
 use mathlib.Core.List.{List, _++_}
-use Prim.Native.Nat.{ℕ, _+_, _≤_}
+use Prim.Native.Nat.{ℕ, _+_, _≤_, _<_}
 use lib.ListN.{length}
 use Rattle.recording.specs.declared.field.Field.{Field}
 use Rattle.recording.specs.declared.reading.Reading.the-variants.{Taken}
+use Rattle.recording.specs.Bytes.{byteAt}
 use Rattle.recording.specs.Reading.{readAt}
 use Rattle.recording.specs.AsCoded.Pieces.{isSettled}
 use Rattle.recording.proofs.TakenLaws.{Tells, Within}
+use Rattle.recording.proofs.OfBytes.{NotThree}
 use Rattle.recording.proofs.InOrder.{InOrder}
 use Rattle.recording.proofs.TakenLaws as taken
+use Rattle.recording.proofs.OfBytes as of-bytes
 use Rattle.recording.proofs.InOrder as order
 use Rattle.recording.proofs.MoreBytes as more
 
@@ -30,6 +33,11 @@ taken-within = taken.taken-within
 taken-in-order : (bytes : List ℕ) (place : ℕ) (begun : Bool) {field : Field} {next : ℕ}
     → readAt bytes place begun ≡ Taken field next → InOrder place next field
 taken-in-order = order.taken-in-order
+
+-- of bytes the reader never gives refusal 3
+no-block-above-255 : (bytes : List ℕ) → ((place : ℕ) → byteAt bytes place < 256)
+    → (place : ℕ) (begun : Bool) → NotThree (readAt bytes place begun)
+no-block-above-255 = of-bytes.no-block-above-255
 
 -- 133 bytes settle a reading, and no bytes that come behind change one that is settled
 settled-by-133 : (bytes : List ℕ) (place : ℕ) (begun : Bool) → place + 133 ≤ length bytes

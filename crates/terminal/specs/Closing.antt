@@ -19,12 +19,13 @@ use Rattle.terminal.specs.declared.state.Reply.{Reply}
 use Rattle.terminal.specs.declared.state.Reply.the-variants.{Silent, Status, Words, Last}
 use Rattle.terminal.specs.State.{Card, card, withStatus, withSwitches, withMessage, withCore}
 use Rattle.message.specs.Message.{hasSecond}
+use Rattle.message.specs.Asked.{keepsBack}
 
 -- ---- the state word
 
--- words stored, and words that a reply sends: none under busy where the asked yields
+-- words stored, and words that a reply sends: none where they are kept back
 abbrev pub unlessBusy : Asked → OpenMessage → ℕ → ℕ
-unlessBusy asked message words = cond (message .busy && asked .yields) 0 words
+unlessBusy asked message words = cond (keepsBack asked message) 0 words
 
 unfoldable pub stateOf : ℕ → ℕ → OpenMessage → ℕ
 stateOf code words message =

@@ -35,7 +35,7 @@ use message::state::Message;
 use message::state::OpenMessage;
 use queue::Ring;
 
-// Words stored or sent: none under busy where the asked yields.
+// Words stored or sent: none where they are kept back.
 fn unless_busy(asked: Asked, message: OpenMessage, words: u16) -> u16
     ensures { λ counted. ⌜ counted ≡ unlessBusy asked message words ⌝ }
 {

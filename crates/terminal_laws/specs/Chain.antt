@@ -36,7 +36,7 @@ pub record ChainCloses (old : Card) (message : OpenMessage) (event : Event) : Ty
   pub table-stays : message .moved ≡ false
   pub in-memory : tableAddress message < length (old .ram)
 
--- a command opens by the same table cell: a message opens, its asked has that cell, and the table
+-- a command opens by the same table cell: a message opens, its chain has that cell, and the table
 -- is the block that it was
 pub record OpensBy (message : OpenMessage) (heard : Word) (old : Card) : Type 0 where
   pub opens : step (word heard) old .opened ≢ none

@@ -10,7 +10,7 @@ use Rattle.card.specs.Memory.{blockCells, wordAddress}
 use Rattle.message.specs.declared.judge.WordAct.the-variants.{Store}
 use Rattle.message.specs.declared.state.OpenMessage.{OpenMessage}
 use Rattle.bus.specs.declared.word.Word.{Word}
-use Rattle.message.specs.Asked.{asks}
+use Rattle.message.specs.Asked.{asks, keepsBack}
 use Rattle.terminal.specs.State.{Card}
 use Rattle.terminal.specs.Event.{
   Event,
@@ -32,7 +32,7 @@ pub record Stores (old : Card) (message : OpenMessage) (heard : Word) : Type 0 w
   pub next : ℕ
   pub by-rule-8 : wordJudged old message heard ≡ Store next
   pub data-cell : message .taken < 32
-  pub not-busy-data : (message .busy && asks message .yields) ≡ false
+  pub not-busy-data : keepsBack (asks message) message ≡ false
 
 -- what an event may write: a message without a block writes nothing, nor does an opening, a queue
 -- read, a setting of the table block or of the flags

@@ -8,17 +8,10 @@ use native.Mathlib.Omega.{arith}
 use lib.ListN.{length}
 use borrow.Author.Tests.{not-true, not-false}
 use Rattle.card.specs.Memory.{withCell}
-use Rattle.message.specs.declared.asked.Asked.{Asked}
-use Rattle.message.specs.declared.state.Stage.the-variants.{
-  Data,
-  SecondCommand,
-  AwaitingStatus,
-  Skipping,
-}
 use Rattle.message.specs.declared.state.OpenMessage.{OpenMessage}
 use Rattle.message.specs.declared.state.Message.the-variants.{Open}
 use Rattle.message.specs.Message.{further}
-use Rattle.message.specs.Asked.{asks}
+use Rattle.message.specs.Wants.{wants}
 use Rattle.terminal.specs.declared.state.Core.{Core}
 use Rattle.terminal.specs.State.{withMessage}
 use Rattle.recording.specs.declared.words.Found.{Found}
@@ -26,7 +19,6 @@ use Rattle.recording.specs.declared.words.Found.the-variants.{Value, Nothing}
 use Rattle.recording.specs.AsCoded.Found.{wordFound}
 use Rattle.tray.specs.declared.row.Row.{Row}
 use Rattle.tray.specs.declared.Ran.{Ran}
-use Rattle.tray.specs.AsCoded.Window.{takes}
 use Rattle.tray.specs.AsCoded.Row.{stored, rowWith, rowStored, wantedBy, ranAfter}
 
 -- ---- the loop
@@ -98,34 +90,11 @@ module _ (able : Bool) (message : OpenMessage) where
   pub wanted-none : not able ≡ true → 0 ≡ wantedBy able message
   wanted-none unable = rw (not-true able unable)
 
-  module _ (is-able : not able ≡ false) where
-    pub wanted-busy : message .stage ≡ Data → message .busy ≡ true
-        → 0 ≡ wantedBy able message
-    wanted-busy in-data busy = rw (not-false able is-able, in-data, busy)
+  pub wanted-some : (words : ℕ) → not able ≡ false → words ≡ wants message
+      → words ≡ wantedBy able message
+  wanted-some words is-able is = rw (not-false able is-able) is
 
-    pub wanted-data : (asked : Asked)
-        → message .stage ≡ Data → message .busy ≡ false
-        → asked ≡ asks message
-        → asked .takes ≡ wantedBy able message
-    wanted-data asked in-data not-busy is = rw (not-false able is-able, in-data, not-busy, is)
-
-    pub wanted-second : message .stage ≡ SecondCommand → 0 ≡ wantedBy able message
-    wanted-second is = rw (not-false able is-able, is)
-
-    pub wanted-status : message .stage ≡ AwaitingStatus → 0 ≡ wantedBy able message
-    wanted-status is = rw (not-false able is-able, is)
-
-    pub wanted-skipping : message .stage ≡ Skipping → 0 ≡ wantedBy able message
-    wanted-skipping is = rw (not-false able is-able, is)
-
-pub ruleset wanting = (
-  wanted-none,
-  wanted-busy,
-  wanted-data,
-  wanted-second,
-  wanted-status,
-  wanted-skipping,
-)
+pub ruleset wanting = (wanted-none, wanted-some)
 
 -- ---- the run behind a row
 

@@ -1,7 +1,7 @@
 -- What `take_row` leaves: the turns that are left lead where all of them led (`row-taken`), since
 -- no more words are wanted than turns are left (`words-fit`). Assumes nothing.
 use mathlib.Core.Path.{_≡_, refl, sym, ap, subst, _∙_}
-use mathlib.Core.Bool.{Bool, true, false, cond, _&&_}
+use mathlib.Core.Bool.{Bool, true, false, _&&_}
 use mathlib.Core.List.{List}
 use Prim.Native.Nat.{ℕ, zero, suc, _+_, _-_, _≤_, _<_}
 use native.Mathlib.Omega.{arith}
@@ -19,8 +19,8 @@ use Rattle.message.specs.declared.state.OpenMessage.{OpenMessage}
 use Rattle.message.specs.declared.state.Message.{Message}
 use Rattle.message.specs.declared.state.Message.the-variants.{Open}
 use Rattle.message.specs.Message.{further}
-use Rattle.message.specs.Asked.{asks}
-use Rattle.message.proofs.AskedBounds.{takes-at-most}
+use Rattle.message.specs.Asked.{asks, keepsBack}
+use Rattle.message.proofs.WantsLaws.{wants-at-most}
 use Rattle.terminal.specs.State.{withMessage}
 use Rattle.recording.specs.declared.words.Found.{Found}
 use Rattle.recording.specs.declared.words.Found.the-variants.{Value, Nothing}
@@ -39,7 +39,6 @@ use Rattle.tray.specs.AsCoded.Row.{
   rowFrom,
   rowStored,
   marksOn,
-  wantedIn,
   mayTakeRow,
   wantedBy,
   ranAfter,
@@ -71,15 +70,6 @@ row-grows window marks block (suc fuel) now =
           at-most = omega (arith, rest .at-most);
         }
 
-wanted-few : (stage : Stage) (message : OpenMessage) → wantedIn stage message ≤ mostWords
-wanted-few Data message = go (message .busy) where
-  go : (busy : Bool) → cond busy 0 (asks message .takes) ≤ mostWords
-  go true = omega arith
-  go false = takes-at-most (message .command)
-wanted-few SecondCommand message = omega arith
-wanted-few AwaitingStatus message = omega arith
-wanted-few Skipping message = omega arith
-
 -- what the test allows
 record Able (begun : Bool) (room most : ℕ) : Type 0 where
   is-begun : begun ≡ true
@@ -108,7 +98,7 @@ wanted-fits begun room most message = go (mayTakeRow begun room most) refl where
   go : (able : Bool) → mayTakeRow begun room most ≡ able → Fits (wantedBy able message) most
   go true is =
       let many = able-tells begun room most is .many in
-      let few = wanted-few (message .stage) message in
+      let few = wants-at-most message in
       record { at-most = omega (arith, many, few); below = λ _. omega (arith, many, few) }
   go false is = record { at-most = omega arith; below = λ some. some }
 
@@ -242,11 +232,11 @@ module _ (old : Ran) (message : OpenMessage) (window ram ram′ : List ℕ)
           zero-less = omega arith
 
       some-words : Able (old .run .begun) room most → message .stage ≡ Data
-          → message .busy ≡ false → wanted ≡ asks message .takes → LeadsOn
-      some-words able in-data not-busy is-takes =
+          → keepsBack (asks message) message ≡ false → wanted ≡ asks message .takes → LeadsOn
+      some-words able in-data served is-takes =
           let led =
           row-led old message places out window last (able .is-begun) is-going
-          (rw is-room at (able .enough)) in-data not-busy
+          (rw is-room at (able .enough)) in-data served
           fuel (stored first ram) (rw is-takes (omega arith)) in
           let is-last : stored end ram′
           ≡ rowStored fuel window (marksOn (message .line)) (message .block)
@@ -267,19 +257,19 @@ module _ (old : Ran) (message : OpenMessage) (window ram ram′ : List ℕ)
       row-leads : LeadsOn
       row-leads =
           go (mayTakeRow (old .run .begun) room most) refl
-          (message .stage) refl (message .busy) refl
+          (message .stage) refl (keepsBack (asks message) message) refl
         where
           go : (able : Bool) → mayTakeRow (old .run .begun) room most ≡ able
               → (stage : Stage) → message .stage ≡ stage
-              → (busy : Bool) → message .busy ≡ busy → LeadsOn
-          go false unable stage is-stage busy is-busy = no-words (is-wanted ∙ rw unable)
-          go true able Data in-data true busy = no-words (is-wanted ∙ rw (able, in-data, busy))
-          go true able Data in-data false not-busy =
-              some-words (able-tells (old .run .begun) room most able) in-data not-busy
-              (is-wanted ∙ rw (able, in-data, not-busy))
-          go true able SecondCommand stage busy is-busy = no-words (is-wanted ∙ rw (able, stage))
-          go true able AwaitingStatus stage busy is-busy = no-words (is-wanted ∙ rw (able, stage))
-          go true able Skipping stage busy is-busy = no-words (is-wanted ∙ rw (able, stage))
+              → (kept : Bool) → keepsBack (asks message) message ≡ kept → LeadsOn
+          go false unable stage is-stage kept is-kept = no-words (is-wanted ∙ rw unable)
+          go true able Data in-data true kept = no-words (is-wanted ∙ rw (able, in-data, kept))
+          go true able Data in-data false served =
+              some-words (able-tells (old .run .begun) room most able) in-data served
+              (is-wanted ∙ rw (able, in-data, served))
+          go true able SecondCommand stage kept is-kept = no-words (is-wanted ∙ rw (able, stage))
+          go true able AwaitingStatus stage kept is-kept = no-words (is-wanted ∙ rw (able, stage))
+          go true able Skipping stage kept is-kept = no-words (is-wanted ∙ rw (able, stage))
 
     taken-so : RowTaken window room most old ram left new ram′
     taken-so =

@@ -14,7 +14,7 @@ use Rattle.message.specs.declared.state.OpenMessage.{OpenMessage}
 use Rattle.message.specs.declared.state.Message.the-variants.{Open}
 use Rattle.bus.specs.declared.word.Word.{Word}
 use Rattle.message.specs.Message.{further}
-use Rattle.message.specs.Asked.{asks}
+use Rattle.message.specs.Asked.{asks, keepsBack}
 use Rattle.message.specs.Words.{ownCommand, inData, onWord}
 use Rattle.terminal.specs.State.{Card, card, withMessage}
 use Rattle.terminal.specs.Event.{quietly}
@@ -45,7 +45,7 @@ beq-same false = refl
 -- a data word of the message is stored
 module _ (old : Card) (message : OpenMessage) (heard : Word)
     (is-open : old .core .message ≡ Open message)
-    (in-data : message .stage ≡ Data) (not-busy : message .busy ≡ false)
+    (in-data : message .stage ≡ Data) (served : keepsBack (asks message) message ≡ false)
     (wanted : message .taken < asks message .takes)
     (of-data : heard .sync ≡ false) (sound : heard .sound ≡ true) (joined : heard .joined ≡ true)
     (same-line : heard .line ≡ message .line) where
@@ -66,7 +66,7 @@ module _ (old : Card) (message : OpenMessage) (heard : Word)
         beq-same (message .line),
         in-data,
         lt-leb (asks message .takes) (message .taken) wanted,
-        not-busy,
+        served,
       )
 
 -- ---- a word is a turn
@@ -93,7 +93,7 @@ one-turn window last left old new going is = rw (is, going)
 module _ (ran : Ran) (message : OpenMessage) (places out window : List ℕ) (last : Bool)
     (begun : ran .run .begun ≡ true) (going : ran .stop ≡ Going)
     (enough : lineRoom ≤ length out - ran .put)
-    (in-data : message .stage ≡ Data) (not-busy : message .busy ≡ false) where
+    (in-data : message .stage ≡ Data) (served : keepsBack (asks message) message ≡ false) where
   abbrev passedAt : Stored → Passed
   passedAt now = passedOf (ranAfter ran message (now .row)) places (now .ram) out
 
@@ -117,7 +117,7 @@ module _ (ran : Ran) (message : OpenMessage) (places out window : List ℕ) (las
       let stored-word =
       word-is-stored (passedAt now .tray .card)
       (further (message .stage) (message .second) (now .row .taken) message) heard
-      refl in-data not-busy more
+      refl in-data served more
       (marked .of-data) (marked .sound) (marked .joined) (marked .on-line) in
       rw (
         le-ltb (length out - ran .put) lineRoom enough,

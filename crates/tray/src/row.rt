@@ -18,7 +18,6 @@ use card::place::Cell;
 use lines;
 use message::state::Message;
 use message::state::OpenMessage;
-use message::state::Stage;
 use recording;
 use recording::Found;
 use std::num;
@@ -78,26 +77,14 @@ fn marks_on(line: bool) -> u8
     if line { 13 } else { 12 }
 }
 
-// How many words an open message takes and stores, as far as it is in its data.
+// How many words are wanted, where a row may be taken.
 fn wanted_by(able: bool, message: OpenMessage) -> u16
     ensures { λ wanted. ⌜ wanted ≡ wantedBy able message ⌝ }
 {
     if !able {
         return 0;
     }
-    let asked = message.asks();
-    let stage = message.stage;
-    match stage {
-        Stage::Data => {
-            if message.busy {
-                return 0;
-            }
-            asked.takes
-        }
-        Stage::SecondCommand => 0,
-        Stage::AwaitingStatus => 0,
-        Stage::Skipping => 0,
-    }
+    message.wants()
 }
 
 // The data words that stand next and are wanted: three quarters of the fields of a busy rack.

@@ -7,17 +7,10 @@ use Prim.Native.Nat.{ℕ, zero, suc, _+_, _-_, _<_, _≤_}
 use lib.Dec.{leb, ltb}
 use lib.ListN.{length}
 use Rattle.card.specs.Memory.{withCell}
-use Rattle.message.specs.declared.state.Stage.{Stage}
-use Rattle.message.specs.declared.state.Stage.the-variants.{
-  Data,
-  SecondCommand,
-  AwaitingStatus,
-  Skipping,
-}
 use Rattle.message.specs.declared.state.OpenMessage.{OpenMessage}
 use Rattle.message.specs.declared.state.Message.the-variants.{Open}
 use Rattle.message.specs.Message.{further}
-use Rattle.message.specs.Asked.{asks}
+use Rattle.message.specs.Wants.{wants}
 use Rattle.terminal.specs.State.{withMessage}
 use Rattle.recording.specs.declared.words.Found.{Found}
 use Rattle.recording.specs.declared.words.Found.the-variants.{Value, Nothing}
@@ -68,19 +61,12 @@ rowStored (suc more) window marks block old =
 abbrev pub marksOn : Bool → ℕ
 marksOn line = cond line 13 12
 
--- how many words a message takes and stores, as far as it is in its data
-abbrev pub wantedIn : Stage → OpenMessage → ℕ
-wantedIn Data message = cond (message .busy) 0 (asks message .takes)
-wantedIn SecondCommand message = 0
-wantedIn AwaitingStatus message = 0
-wantedIn Skipping message = 0
-
 -- a row is taken after a setup, with room for a line, where turns are left for any row
 abbrev pub mayTakeRow : Bool → ℕ → ℕ → Bool
 mayTakeRow begun room most = begun && leb lineRoom room && ltb mostWords most
 
 abbrev pub wantedBy : Bool → OpenMessage → ℕ
-wantedBy able message = cond able (wantedIn (message .stage) message) 0
+wantedBy able message = cond able (wants message) 0
 
 -- the run behind a row of words for its open message
 unfoldable pub ranAfter : Ran → OpenMessage → Row → Ran
