@@ -139,7 +139,7 @@ fn asked_by(kind: Kind, command: u16) -> Asked
     }
 }
 
-// What a command asks.
+// What a command asks where it opens.
 pub fn asked_of(command: u16) -> Asked
     ensures { λ asked. ⌜ asked ≡ askedOf command ⌝ }
 {
@@ -148,10 +148,12 @@ pub fn asked_of(command: u16) -> Asked
 }
 
 impl OpenMessage {
-    // What the command of an open message asks.
+    // What the command of an open message asks, where the message is picked up. Said by its own
+    // calls, so that the opening alone calls `asked_of` and the compiler makes that part of its loop.
     pub fn asks(self) -> Asked
         ensures { λ asked. ⌜ asked ≡ asks self ⌝ }
     {
-        asked_of(self.command)
+        let kind = kind::kind_of(self.command);
+        asked_by(kind, self.command)
     }
 }
