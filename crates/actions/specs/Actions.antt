@@ -8,7 +8,7 @@ use lib.ListN.{length}
 use Rattle.bus.specs.Word.{wordOf}
 use Rattle.card.specs.Memory.{cardWords}
 use Rattle.queue.specs.declared.Queue.{Queue}
-use Rattle.queue.specs.Queue.{emptyQueue, fitQueue}
+use Rattle.queue.specs.Queue.{emptyQueue}
 use Rattle.terminal.specs.declared.state.Core.{Core}
 use Rattle.terminal.specs.declared.state.Answer.{Answer}
 use Rattle.terminal.specs.declared.state.Reply.the-variants.{Silent}
@@ -26,7 +26,7 @@ use Rattle.terminal.specs.Event.{
   Outcome,
 }
 use Rattle.terminal.specs.Machine.{step}
-use Rattle.terminal.specs.Fitness.{fitCore, fitCard}
+use Rattle.terminal.specs.Fitness.{fitCard}
 use Rattle.actions.specs.declared.Terminal.{Terminal}
 use Rattle.actions.specs.declared.Done.{Done}
 
@@ -55,7 +55,7 @@ abbrev pub wholeCard : Card → Bool
 wholeCard old = eqb (length (old .ram)) cardWords
 
 abbrev pub fitTerminal : Terminal → Bool
-fitTerminal given = fitCore (given .core) && fitQueue (given .queue)
+fitTerminal given = fitCard (alone given)
 
 -- 1, then 4, then the action's own number where its input is not in order
 unfoldable pub withMemory : Bool → ℕ → Event → Card → After

@@ -18,8 +18,6 @@ use Rattle.bus.proofs.mode.mode_of.Kinds as mode-of-kinds
 use Rattle.bus.proofs.mode.mode_of.Reads as mode-of-reads
 use Rattle.bus.proofs.kind.kind_of.Kinds as kind-of-kinds
 use Rattle.bus.proofs.kind.kind_of.Reads as kind-of-reads
-use Rattle.bus.proofs.kind.Kind.is_illegal.Kinds as is-illegal-kinds
-use Rattle.bus.proofs.kind.Kind.is_illegal.Reads as is-illegal-reads
 use Rattle.bus.proofs.status.Status.caught.Kinds as caught-kinds
 use Rattle.bus.proofs.status.Status.caught.Reads as caught-reads
 use Rattle.bus.proofs.status.Status.word.Kinds as status-word-kinds
@@ -55,9 +53,6 @@ mode-of κs arguments result result′ exit exit′ = same
 
 pub kind-of : Determined 0 kind-of-kinds.ps kind-of-kinds.r kind-of-reads.Post
 kind-of κs arguments result result′ exit exit′ = same
-
-pub is-illegal : Determined 0 is-illegal-kinds.ps is-illegal-kinds.r is-illegal-reads.Post
-is-illegal κs arguments result result′ exit exit′ = same
 
 pub caught : Determined 0 caught-kinds.ps caught-kinds.r caught-reads.Post
 caught κs arguments result result′ exit exit′ = same

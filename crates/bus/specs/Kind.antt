@@ -1,5 +1,5 @@
 -- What a command asks for. Definitions only. Assumes nothing.
-use mathlib.Core.Bool.{Bool, true, false, cond, not, _&&_, _||_, Bool·beq}
+use mathlib.Core.Bool.{Bool, cond, not, _&&_, _||_, Bool·beq}
 use Prim.Native.Nat.{ℕ}
 use lib.Dec.{eqb, leb}
 use Rattle.bus.specs.declared.mode.Mode.{Mode}
@@ -41,14 +41,3 @@ kindOf command =
     (modeKindOf (modeOf (modeCodeOf command) .word) (modeCodeOf command)) Illegal)
     (cond (not (isTransmit command)) Receive
     (cond (isBroadcast command) Illegal Transmit))
-
-abbrev pub isIllegal : Kind → Bool
-isIllegal Receive = false
-isIllegal Transmit = false
-isIllegal ModeStatus = false
-isIllegal ModeLast = false
-isIllegal ModeSwitch = false
-isIllegal ModeSend = false
-isIllegal ModeTake = false
-isIllegal ModeReply = false
-isIllegal Illegal = true

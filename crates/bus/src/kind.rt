@@ -1,6 +1,6 @@
 // What a command asks for. The rest of the terminal goes by this one classification.
 ghost use mathlib.Core.Path.{_≡_};
-ghost use Rattle.bus.specs.Kind.{kindOf, legalModeOf, modeKindOf, isIllegal};
+ghost use Rattle.bus.specs.Kind.{kindOf, legalModeOf, modeKindOf};
 use crate::command;
 use crate::mode;
 use crate::mode::Mode;
@@ -24,24 +24,6 @@ pub enum Kind {
     // codes 0, 1, 3 and 8: a reply alone
     ModeReply,
     Illegal,
-}
-
-impl Kind {
-    pub fn is_illegal(self) -> bool
-        ensures { λ illegal. ⌜ illegal ≡ isIllegal self ⌝ }
-    {
-        match self {
-            Kind::Receive => false,
-            Kind::Transmit => false,
-            Kind::ModeStatus => false,
-            Kind::ModeLast => false,
-            Kind::ModeSwitch => false,
-            Kind::ModeSend => false,
-            Kind::ModeTake => false,
-            Kind::ModeReply => false,
-            Kind::Illegal => true,
-        }
-    }
 }
 
 // What a legal mode command asks for, by its data word and its code.
