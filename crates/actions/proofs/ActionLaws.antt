@@ -8,9 +8,11 @@ use lib.Dec.{eqb, leb}
 use lib.ListN.{length}
 use lib.Seq.{sets}
 use borrow.Author.Tests.{eq-eqb, ne-eqb}
+use Rattle.bus.specs.Limits.{isStation, areFlags}
 use Rattle.bus.specs.Word.{wordOf}
-use Rattle.card.specs.Memory.{cardWords}
+use Rattle.card.specs.Memory.{cardBlocks, cardWords, isBlock}
 use Rattle.card.specs.Host as host
+use Rattle.card.specs.Host.{isWrite}
 use Rattle.queue.specs.declared.QueueRead.{QueueRead}
 use Rattle.queue.specs.declared.Queue.{Queue}
 use Rattle.queue.specs.Queue.{readOf, fitQueue, emptyQueue}
@@ -69,7 +71,7 @@ use Rattle.terminal.proofs.SilentLaws.{words-are-silent}
 -- ---- what is judged
 
 pub fit-terminal-is : (given : Terminal) (fit fit′ : Bool)
-    → fit ≡ fitCore (given .core) → fit′ ≡ fitQueue (given .queue)
+    → fit ≡ fitCore cardBlocks (given .core) → fit′ ≡ fitQueue cardBlocks (given .queue)
     → (fit && fit′) ≡ fitTerminal given
 fit-terminal-is given fit fit′ is is′ = rw (is, is′)
 
@@ -165,16 +167,15 @@ module _ (given : Terminal) (ram : List ℕ) where
   pub host-took : (address : ℕ) (words : List ℕ) (number own : ℕ) (left : List ℕ)
       → number ≡ memoryRefusal (eqb (length ram) cardWords) (fitTerminal given) true
       → number ≡ 0
-      → host.done own left ≡ host.hostWrite ram address words
+      → host.done own left ≡ host.hostWrite cardBlocks ram address words
       → after own (replied Silent) (card (given .core) (given .queue) left)
       ≡ withMemory
-      (leb 1 (length words) && leb (length words) 64 && leb (address + length words) cardWords)
-      8 (hostWrite address words) over-memory
+      (isWrite cardBlocks address (length words)) 8 (hostWrite address words) over-memory
   unfolding withMemory step hostWriteStep host.hostWrite
   host-took address words number own left is none is-left =
       ap answered is-left
       ∙ go (eqb (length ram) cardWords) (fitTerminal given)
-      (leb 1 (length words) && leb (length words) 64 && leb (address + length words) cardWords)
+      (isWrite cardBlocks address (length words))
       (sym is ∙ none)
     where
       answered : host.Done → After
@@ -280,7 +281,7 @@ module _ (station table flags : ℕ) where
       (settled 0 (terminalAtSetup station table flags))
       (settled (setupRefusal station table flags) noTerminal)
   unfolding setupAction
-  settled-by = go (leb station 30) (leb table 255) (leb flags 63)
+  settled-by = go (isStation station) (isBlock cardBlocks table) (areFlags flags)
     where
       go : (one two three : Bool)
           → cond (not one) (settled 2 noTerminal)

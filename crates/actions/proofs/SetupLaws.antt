@@ -1,20 +1,27 @@
 -- What setup returns is fit, `fit-at-setup`; what it returns where it refuses is not. Assumes nothing.
 use mathlib.Core.Path.{_≡_, refl}
 use mathlib.Core.Bool.{true, false}
-use Prim.Native.Nat.{ℕ, _≤_}
-use borrow.Author.Tests.{le-leb}
+use Prim.Native.Nat.{ℕ, _≤_, _<_}
+use native.Mathlib.Omega.{arith}
+use borrow.Author.Tests.{le-leb, lt-ltb}
+use Rattle.bus.specs.Limits.{lastStation, allFlags}
+use Rattle.card.specs.Memory.{cardBlocks}
 use Rattle.queue.proofs.FitLaws.{empty-is-fit}
 use Rattle.terminal.specs.State.{coreAtSetup}
 use Rattle.terminal.specs.Fitness.{fitCore}
 use Rattle.actions.specs.Actions.{fitTerminal, terminalAtSetup, noTerminal}
 
 -- a setup that is not refused
-pub fit-at-setup : (station table flags : ℕ) → station ≤ 30 → table ≤ 255 → flags ≤ 63
+pub fit-at-setup : (station table flags : ℕ) → station ≤ lastStation → table < cardBlocks
+    → flags ≤ allFlags
     → fitTerminal (terminalAtSetup station table flags) ≡ true
 unfolding fitCore terminalAtSetup coreAtSetup
 fit-at-setup station table flags fit-station fit-table fit-flags =
-    rw (le-leb station 30 fit-station, le-leb table 255 fit-table, le-leb flags 63 fit-flags)
-    empty-is-fit
+    rw (
+      le-leb station lastStation fit-station,
+      lt-ltb table cardBlocks fit-table,
+      le-leb flags allFlags fit-flags,
+    ) (empty-is-fit cardBlocks (omega arith))
 
 -- what a refused setup returns is no terminal
 pub no-terminal-is-unfit : fitTerminal noTerminal ≡ false

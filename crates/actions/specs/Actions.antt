@@ -1,12 +1,14 @@
 -- The actions of the library, refusals included, in the order 1, 4, 2, 3, 8. A refusal gives its
 -- number and leaves everything as it was given. Definitions only. Assumes nothing.
-use mathlib.Core.Bool.{Bool, cond, not, _&&_}
+use mathlib.Core.Bool.{Bool, cond, not}
 use mathlib.Core.List.{List, []}
 use Prim.Native.Nat.{ℕ, _+_}
-use lib.Dec.{eqb, leb}
+use lib.Dec.{eqb}
 use lib.ListN.{length}
+use Rattle.bus.specs.Limits.{allStations, isStation, areFlags, areMarks, isLine}
 use Rattle.bus.specs.Word.{wordOf}
-use Rattle.card.specs.Memory.{cardWords}
+use Rattle.card.specs.Memory.{cardBlocks, cardWords, isBlock}
+use Rattle.card.specs.Host.{isWrite}
 use Rattle.queue.specs.declared.Queue.{Queue}
 use Rattle.queue.specs.Queue.{emptyQueue}
 use Rattle.terminal.specs.declared.state.Core.{Core}
@@ -75,26 +77,24 @@ withoutMemory inOrder number refused event old =
 -- ---- the actions
 
 unfoldable pub wordAction : ℕ → ℕ → ℕ → Card → After
-wordAction marks value time = withMemory (leb marks 15) 8 (word (wordOf marks value time))
+wordAction marks value time = withMemory (areMarks marks) 8 (word (wordOf marks value time))
 
 unfoldable pub silenceAction : ℕ → ℕ → Card → After
-silenceAction line time = withMemory (leb line 1) 8 (silence (eqb line 1) time)
+silenceAction line time = withMemory (isLine line) 8 (silence (eqb line 1) time)
 
 unfoldable pub hostWriteAction : ℕ → List ℕ → Card → After
 hostWriteAction address words =
-    withMemory
-    (leb 1 (length words) && leb (length words) 64 && leb (address + length words) cardWords)
-    8 (hostWrite address words)
+    withMemory (isWrite cardBlocks address (length words)) 8 (hostWrite address words)
 
 unfoldable pub readQueueAction : Card → After
 readQueueAction old =
     cond (not (fitCard old)) (after 4 (queueWord 0) old) (took (step queueRead old))
 
 unfoldable pub moveTableAction : ℕ → Card → After
-moveTableAction table = withoutMemory (leb table 255) 3 (replied Silent) (tableMove table)
+moveTableAction table = withoutMemory (isBlock cardBlocks table) 3 (replied Silent) (tableMove table)
 
 unfoldable pub setFlagsAction : ℕ → Card → After
-setFlagsAction flags = withoutMemory (leb flags 63) 8 (replied Silent) (flagsWrite flags)
+setFlagsAction flags = withoutMemory (areFlags flags) 8 (replied Silent) (flagsWrite flags)
 
 -- ---- setup
 
@@ -104,17 +104,17 @@ terminal core queue = record { core = core; queue = queue }
 unfoldable pub terminalAtSetup : ℕ → ℕ → ℕ → Terminal
 terminalAtSetup station table flags = terminal (coreAtSetup station table flags) emptyQueue
 
--- no terminal: every action refuses it with 4
+-- no terminal: of no station, so that every action refuses it with 4
 abbrev pub noTerminal : Terminal
-noTerminal = terminalAtSetup 31 0 0
+noTerminal = terminalAtSetup allStations 0 0
 
 abbrev pub settled : ℕ → Terminal → Done
 settled refusal given = record { refusal = refusal; terminal = given }
 
--- 2 station above 30, 3 table block above 255, 8 flags above 63
+-- 2 no station, 3 no block of the card, 8 spare bits in the flags
 unfoldable pub setupAction : ℕ → ℕ → ℕ → Done
 setupAction station table flags =
-    cond (not (leb station 30)) (settled 2 noTerminal)
-    (cond (not (leb table 255)) (settled 3 noTerminal)
-    (cond (not (leb flags 63)) (settled 8 noTerminal)
+    cond (not (isStation station)) (settled 2 noTerminal)
+    (cond (not (isBlock cardBlocks table)) (settled 3 noTerminal)
+    (cond (not (areFlags flags)) (settled 8 noTerminal)
     (settled 0 (terminalAtSetup station table flags))))

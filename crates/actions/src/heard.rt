@@ -7,6 +7,8 @@ ghost use Rattle.terminal.specs.SilenceStep.{silenceStep};
 ghost use Rattle.actions.specs.Actions.{after, took, wordAction, silenceAction, over};
 use crate::Answered;
 use crate::Terminal;
+use bus::limits::ALL_MARKS;
+use bus::limits::LAST_LINE;
 use bus::word;
 use bus::word::Word;
 use terminal::state::Reply;
@@ -58,7 +60,7 @@ impl Terminal {
             (over (answer .terminal) (now (ram .exit)))
             ≡ wordAction marks value time (over self (now (ram .entry))) ⌝ }
     {
-        let refusal = self.memory_refusal(ram.len(), marks <= 15);
+        let refusal = self.memory_refusal(ram.len(), marks <= ALL_MARKS);
         if refusal != 0 {
             return Answered {
                 refusal: refusal,
@@ -80,7 +82,7 @@ impl Terminal {
             (over (answer .terminal) (now (ram .exit)))
             ≡ silenceAction line time (over self (now (ram .entry))) ⌝ }
     {
-        let refusal = self.memory_refusal(ram.len(), line <= 1);
+        let refusal = self.memory_refusal(ram.len(), line <= LAST_LINE);
         if refusal != 0 {
             return Answered {
                 refusal: refusal,

@@ -15,7 +15,9 @@ ghost use Rattle.actions.specs.Actions.{
 use crate::Done;
 use crate::QueueAnswered;
 use crate::Terminal;
+use bus::limits::ALL_FLAGS;
 use card::host;
+use card::place::CARD_BLOCKS;
 
 impl Terminal {
     // The host writes 1 to 64 words from an address on.
@@ -32,7 +34,7 @@ impl Terminal {
                 terminal: self,
             };
         }
-        let number = host::write(ram, address, words);
+        let number = host::write(ram, CARD_BLOCKS, address, words);
         Done {
             refusal: number,
             terminal: self,
@@ -67,7 +69,7 @@ impl Terminal {
         ensures { λ done. ⌜ after (done .refusal) (replied Silent) (alone (done .terminal))
             ≡ moveTableAction table (alone self) ⌝ }
     {
-        let refusal = self.refusal(table <= 255, 3);
+        let refusal = self.refusal(table < CARD_BLOCKS, 3);
         if refusal != 0 {
             return Done {
                 refusal: refusal,
@@ -88,7 +90,7 @@ impl Terminal {
         ensures { λ done. ⌜ after (done .refusal) (replied Silent) (alone (done .terminal))
             ≡ setFlagsAction flags (alone self) ⌝ }
     {
-        let refusal = self.refusal(flags <= 63, 8);
+        let refusal = self.refusal(flags <= ALL_FLAGS, 8);
         if refusal != 0 {
             return Done {
                 refusal: refusal,

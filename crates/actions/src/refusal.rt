@@ -5,19 +5,22 @@ ghost use Rattle.card.specs.Memory.{cardWords};
 ghost use Rattle.actions.specs.Actions.{fitTerminal};
 ghost use Rattle.actions.specs.AsCoded.Refusal.{setupRefusal, memoryRefusal, aloneRefusal};
 use crate::Terminal;
+use bus::limits::ALL_FLAGS;
+use bus::limits::LAST_STATION;
+use card::place::CARD_BLOCKS;
 use card::place::CARD_WORDS;
 
-// What setup refuses: 2 station above 30, 3 table block above 255, 8 flags above 63.
+// What setup refuses: 2 no station, 3 no block of the card, 8 spare bits in the flags.
 pub(crate) fn setup_refusal(station: u16, table: u16, flags: u16) -> u8
     ensures { λ number. ⌜ number ≡ setupRefusal station table flags ⌝ }
 {
-    if station > 30 {
+    if station > LAST_STATION {
         return 2;
     }
-    if table > 255 {
+    if table >= CARD_BLOCKS {
         return 3;
     }
-    if flags > 63 {
+    if flags > ALL_FLAGS {
         return 8;
     }
     0

@@ -4,6 +4,7 @@ ghost use Rattle.actions.specs.Actions.{terminalAtSetup, setupAction};
 use crate::Done;
 use crate::Terminal;
 use crate::refusal;
+use bus::limits::ALL_STATIONS;
 use queue::Queue;
 use terminal::state::Core;
 
@@ -29,7 +30,7 @@ impl Terminal {
         if refusal != 0 {
             return Done {
                 refusal: refusal,
-                terminal: Terminal::at_setup(31, 0, 0),
+                terminal: Terminal::at_setup(ALL_STATIONS, 0, 0),
             };
         }
         Done {

@@ -4,6 +4,7 @@ use mathlib.Core.Bool.{Bool, cond, _||_}
 use Prim.Native.Nat.{ℕ, _/_, _%_}
 use lib.Dec.{eqb}
 use Rattle.bits.specs.Bit.{hasBit}
+use Rattle.bus.specs.Limits.{allStations}
 
 abbrev pub addressOf : ℕ → ℕ
 addressOf command = command / 2048
@@ -24,7 +25,7 @@ wordsOf command = cond (eqb (command % 32) 0) 32 (command % 32)
 
 -- address 31 speaks to all stations
 abbrev pub isBroadcast : ℕ → Bool
-isBroadcast command = eqb (addressOf command) 31
+isBroadcast command = eqb (addressOf command) allStations
 
 -- subaddresses 0 and 31 are mode commands
 abbrev pub isMode : ℕ → Bool

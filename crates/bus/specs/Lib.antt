@@ -1,4 +1,5 @@
 -- The standard's words, in the order in which they build on each other.
+pub mod Limits
 pub mod Word
 pub mod Command
 pub mod Mode

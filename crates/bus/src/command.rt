@@ -10,6 +10,7 @@ ghost use Rattle.bus.specs.Command.{
   isBroadcast,
   isMode,
 };
+use crate::limits::ALL_STATIONS;
 
 // The station that is spoken to; 31 speaks to all.
 pub fn address(command: u16) -> u16
@@ -51,7 +52,7 @@ pub fn words(command: u16) -> u16
 pub fn is_broadcast(command: u16) -> bool
     ensures { λ broadcast. ⌜ broadcast ≡ isBroadcast command ⌝ }
 {
-    command / 2048 == 31
+    command / 2048 == ALL_STATIONS
 }
 
 // Subaddresses 0 and 31 are mode commands.

@@ -7,6 +7,7 @@ use Prim.Native.Nat.{ℕ}
 use lib.ListN.{length, replicate}
 use Rattle.card.specs.declared.state.State.{State}
 use Rattle.card.specs.Memory.{
+  cardBlocks,
   cardWords,
   wordAddress,
   cellAt,
@@ -138,23 +139,23 @@ a-cell-past-63-is-not-there = refl
 -- ---- the host's write
 
 -- (g) of document 01
-one-word-at-the-last-address : hostWrite zeros 16383 (7 ∷ []) .number ≡ 0
+one-word-at-the-last-address : hostWrite cardBlocks zeros 16383 (7 ∷ []) .number ≡ 0
 unfolding zeros hostWrite
 one-word-at-the-last-address = refl
 
-two-words-at-the-last-address : hostWrite zeros 16383 (7 ∷ 8 ∷ []) .number ≡ 8
+two-words-at-the-last-address : hostWrite cardBlocks zeros 16383 (7 ∷ 8 ∷ []) .number ≡ 8
 unfolding zeros hostWrite
 two-words-at-the-last-address = refl
 
-no-words : hostWrite zeros 0 [] .number ≡ 8
+no-words : hostWrite cardBlocks zeros 0 [] .number ≡ 8
 unfolding zeros hostWrite
 no-words = refl
 
-sixty-five-words : hostWrite zeros 0 (replicate 65 1) .number ≡ 8
+sixty-five-words : hostWrite cardBlocks zeros 0 (replicate 65 1) .number ≡ 8
 unfolding zeros hostWrite
 sixty-five-words = refl
 
-a-card-of-another-size : hostWrite (0 ∷ []) 0 (7 ∷ []) ≡ done 1 (0 ∷ [])
+a-card-of-another-size : hostWrite cardBlocks (0 ∷ []) 0 (7 ∷ []) ≡ done 1 (0 ∷ [])
 unfolding hostWrite
 a-card-of-another-size = refl
 
@@ -165,15 +166,15 @@ words-of-block-2 : sentPart (withCell (withCell zeros 2 0 0x1111) 2 1 0x2222) 2 
 unfolding zeros withCell sentPart sentRefusal
 words-of-block-2 = refl
 
-block-256-is-refused : sentRefusal cardWords 256 1 ≡ 8
+block-256-is-refused : sentRefusal cardBlocks cardWords 256 1 ≡ 8
 unfolding sentRefusal
 block-256-is-refused = refl
 
-no-count-is-refused : sentRefusal cardWords 2 0 ≡ 8
+no-count-is-refused : sentRefusal cardBlocks cardWords 2 0 ≡ 8
 unfolding sentRefusal
 no-count-is-refused = refl
 
-a-count-of-33-is-refused : sentRefusal cardWords 2 33 ≡ 8
+a-count-of-33-is-refused : sentRefusal cardBlocks cardWords 2 33 ≡ 8
 unfolding sentRefusal
 a-count-of-33-is-refused = refl
 

@@ -1,37 +1,41 @@
 -- The laws of `specs/Sent.antt`: what the number 0 tells, and the part on either way.
 -- Assumes nothing.
 use mathlib.Core.Path.{_≡_, sym, _∙_}
+use mathlib.Core.Bool.{cond, _&&_}
 use mathlib.Core.List.{List, []}
 use Prim.Native.Nat.{ℕ, _+_, _-_, _≤_, _<_}
 use native.Mathlib.Decide.{ℕ-discrete, decLe, decLt}
 use native.Mathlib.Omega.{arith}
+use lib.Dec.{leb}
 use lib.ListN.{length, take, drop}
 use borrow.Author.Tests.{eq-eqb, ne-eqb, le-leb, lt-leb, lt-ltb, le-ltb}
-use Rattle.card.specs.Memory.{cardWords, cardBlocks, wordAddress}
+use Rattle.card.specs.Memory.{dataCells, cardBlocks, wordsIn, isBlock, wordAddress}
 use Rattle.card.specs.Sent.{sentRefusal, sentPart}
 
 -- what is asked of a part that is shown
-pub record Shown (size block count : ℕ) : Type 0 where
-  pub whole-card : size ≡ cardWords
-  pub on-card : block < cardBlocks
+pub record Shown (blocks size block count : ℕ) : Type 0 where
+  pub whole-card : size ≡ wordsIn blocks
+  pub on-card : block < blocks
   pub some : 1 ≤ count
-  pub at-most-32 : count ≤ 32
+  pub at-most : count ≤ dataCells
 
-module _ (size block count : ℕ) where
+module _ (blocks size block count : ℕ) where
   -- the number 0 is given for nothing else
-  pub shown : sentRefusal size block count ≡ 0 → Shown size block count
+  pub shown : sentRefusal blocks size block count ≡ 0 → Shown blocks size block count
   unfolding sentRefusal
   shown none =
-      let whole-card : size ≡ cardWords =
-      elim (ℕ-discrete size cardWords) [
+      let whole-card : size ≡ wordsIn blocks =
+      elim (ℕ-discrete size (wordsIn blocks)) [
         | yes is ↦ is
-        | no other ↦ omega (arith, rw (ne-eqb size cardWords other) at none)
+        | no other ↦ omega (arith, rw (ne-eqb size (wordsIn blocks) other) at none)
       ] in
-      let asked : sentRefusal cardWords block count ≡ 0 = rw whole-card at none in
-      let on-card : block < cardBlocks =
-      elim (decLt block cardBlocks) [
+      let number : ℕ = cond (isBlock blocks block && leb 1 count && leb count dataCells) 0 8 in
+      let asked : number ≡ 0 =
+      rw (eq-eqb size (wordsIn blocks) whole-card) at none in
+      let on-card : block < blocks =
+      elim (decLt block blocks) [
         | yes is ↦ is
-        | no other ↦ omega (arith, rw (le-ltb block cardBlocks (omega arith)) at asked)
+        | no other ↦ omega (arith, rw (le-ltb block blocks (omega arith)) at asked)
       ] in
       let some : 1 ≤ count =
       elim (decLe 1 count) [
@@ -39,40 +43,40 @@ module _ (size block count : ℕ) where
         | no other ↦
             omega (
               arith,
-              rw (lt-ltb block cardBlocks on-card, lt-leb 1 count (omega arith)) at asked,
+              rw (lt-ltb block blocks on-card, lt-leb 1 count (omega arith)) at asked,
             )
       ] in
-      let at-most-32 : count ≤ 32 =
-      elim (decLe count 32) [
+      let at-most : count ≤ dataCells =
+      elim (decLe count dataCells) [
         | yes is ↦ is
         | no other ↦
             omega (
               arith,
               rw (
-                lt-ltb block cardBlocks on-card,
+                lt-ltb block blocks on-card,
                 le-leb 1 count some,
-                lt-leb count 32 (omega arith),
+                lt-leb count dataCells (omega arith),
               ) at asked,
             )
       ] in
-      record { whole-card = whole-card; on-card = on-card; some = some; at-most-32 = at-most-32 }
+      record { whole-card = whole-card; on-card = on-card; some = some; at-most = at-most }
 
 module _ (ram : List ℕ) (block count number : ℕ)
-    (asked : number ≡ sentRefusal (length ram) block count) where
+    (asked : number ≡ sentRefusal cardBlocks (length ram) block count) where
   pub part-refused : (number ≡ 0 → ⊥) → [] ≡ sentPart ram block count
   unfolding sentPart
   part-refused refused =
-      rw (ne-eqb (sentRefusal (length ram) block count) 0 (rw asked at refused))
+      rw (ne-eqb (sentRefusal cardBlocks (length ram) block count) 0 (rw asked at refused))
 
   module _ (start : ℕ) where
     pub part-ends : number ≡ 0 → start ≡ wordAddress block 0 → start + count ≤ length ram
-    part-ends none starts = omega (arith, shown (length ram) block count (sym asked ∙ none))
+    part-ends none starts = omega (arith, shown cardBlocks (length ram) block count (sym asked ∙ none))
 
     pub part-shown : number ≡ 0 → start ≡ wordAddress block 0
         → take (start + count - start) (drop start ram) ≡ sentPart ram block count
     unfolding sentPart
     part-shown none starts =
         let long : start + count - start ≡ count = omega arith in
-        rw (long, starts, eq-eqb (sentRefusal (length ram) block count) 0 (sym asked ∙ none))
+        rw (long, starts, eq-eqb (sentRefusal cardBlocks (length ram) block count) 0 (sym asked ∙ none))
 
 pub ruleset parts = (part-refused, part-ends, part-shown)

@@ -1,11 +1,11 @@
 -- The host's write of words. Definitions only. Assumes nothing.
-use mathlib.Core.Bool.{cond, _&&_}
+use mathlib.Core.Bool.{Bool, cond, _&&_}
 use mathlib.Core.List.{List}
 use Prim.Native.Nat.{ℕ, _+_}
 use lib.Dec.{eqb, leb}
 use lib.ListN.{length}
 use lib.Seq.{sets}
-use Rattle.card.specs.Memory.{cardWords}
+use Rattle.card.specs.Memory.{wordsIn}
 
 -- what an action on memory leaves: its refusal number, 0 for none, and memory
 pub record Done : Type 0 where
@@ -15,11 +15,21 @@ pub record Done : Type 0 where
 abbrev pub done : ℕ → List ℕ → Done
 done number ram = record { number = number; ram = ram }
 
--- 1 where the RAM is not 16,384 words; 8 where the words are not 1 to 64 or reach past its end
-unfoldable pub hostWrite : List ℕ → ℕ → List ℕ → Done
-hostWrite ram address words =
-    cond (eqb (length ram) cardWords)
-    (cond (leb 1 (length words) && leb (length words) 64 && leb (address + length words) cardWords)
+-- a write has 1 to 64 words
+abbrev pub mostWritten : ℕ
+mostWritten = 64
+
+-- whether so many words from an address on are a write, on a card of so many blocks: 1 to 64, and
+-- none past its end
+abbrev pub isWrite : ℕ → ℕ → ℕ → Bool
+isWrite blocks address count =
+    leb 1 count && leb count mostWritten && leb (address + count) (wordsIn blocks)
+
+-- 1 where the RAM is not that of so many blocks; 8 where the words are no write
+unfoldable pub hostWrite : ℕ → List ℕ → ℕ → List ℕ → Done
+hostWrite blocks ram address words =
+    cond (eqb (length ram) (wordsIn blocks))
+    (cond (isWrite blocks address (length words))
     (done 0 (sets ram address words))
     (done 8 ram))
     (done 1 ram)

@@ -1,20 +1,35 @@
 -- Card memory as the list of its words, and the cells of its blocks. Where a cell lies and what a
 -- store to it does hangs on no size of card. Definitions only. Assumes nothing.
-use mathlib.Core.Bool.{cond}
+use mathlib.Core.Bool.{Bool, cond}
 use mathlib.Core.List.{List}
 use Prim.Native.Nat.{ℕ, _+_, _*_, _/_, _%_}
 use lib.Dec.{ltb}
 use lib.ListN.{getD, set}
 
--- the words of a card, its blocks, and the cells of a block
-abbrev pub cardWords : ℕ
-cardWords = 16384
+-- ---- sizes: the cells of a block and those of them that hold data words, 0 to 31; the blocks of a
+-- card and its words
+
+abbrev pub blockCells : ℕ
+blockCells = 64
+
+abbrev pub dataCells : ℕ
+dataCells = 32
 
 abbrev pub cardBlocks : ℕ
 cardBlocks = 256
 
-abbrev pub blockCells : ℕ
-blockCells = 64
+-- the words of a card of so many blocks
+abbrev pub wordsIn : ℕ → ℕ
+wordsIn blocks = blockCells * blocks
+
+abbrev pub cardWords : ℕ
+cardWords = wordsIn cardBlocks
+
+-- whether a number is that of a block, on a card of so many
+abbrev pub isBlock : ℕ → ℕ → Bool
+isBlock blocks block = ltb block blocks
+
+-- ---- cells
 
 -- block and cell are counted apart: a word address is 64 × block + cell
 abbrev pub wordAddress : ℕ → ℕ → ℕ

@@ -2,18 +2,21 @@
 use mathlib.Core.Bool.{cond, _&&_}
 use mathlib.Core.List.{List, []}
 use Prim.Native.Nat.{ℕ}
-use lib.Dec.{eqb, leb, ltb}
+use lib.Dec.{eqb, leb}
 use lib.ListN.{length, take, drop}
-use Rattle.card.specs.Memory.{cardWords, cardBlocks, wordAddress}
+use Rattle.card.specs.Memory.{dataCells, cardBlocks, wordsIn, isBlock, wordAddress}
 
--- 1 where the RAM is not 16,384 words; 8 where the block is above 255 or the count not 1 to 32
-unfoldable pub sentRefusal : ℕ → ℕ → ℕ → ℕ
-sentRefusal size block count =
-    cond (eqb size cardWords) (cond (ltb block cardBlocks && leb 1 count && leb count 32) 0 8) 1
+-- 1 where the RAM is not that of so many blocks; 8 where the block is none of them or the count not
+-- 1 to 32
+unfoldable pub sentRefusal : ℕ → ℕ → ℕ → ℕ → ℕ
+sentRefusal blocks size block count =
+    cond (eqb size (wordsIn blocks))
+    (cond (isBlock blocks block && leb 1 count && leb count dataCells) 0 8)
+    1
 
 -- the words from the block's cell 0 on; none where the part is refused
 unfoldable pub sentPart : List ℕ → ℕ → ℕ → List ℕ
 sentPart ram block count =
-    cond (eqb (sentRefusal (length ram) block count) 0)
+    cond (eqb (sentRefusal cardBlocks (length ram) block count) 0)
     (take count (drop (wordAddress block 0) ram))
     []

@@ -3,7 +3,10 @@ ghost use mathlib.Core.Path.{_≡_};
 ghost use lib.ListN.{set};
 ghost use lib.Seq.{sets};
 ghost use Rattle.card.specs.Host.{done, hostWrite};
-use crate::place::CARD_WORDS;
+use crate::place::BLOCK_CELLS;
+
+// The words of a write, at most.
+pub const MOST_WRITTEN: usize = 64;
 
 // Stores a word at an address. Past the end of memory nothing is stored.
 fn put_word(ram: &mut [u16], address: usize, word: u16)
@@ -26,22 +29,24 @@ pub fn write_words(ram: &mut [u16], address: u16, words: &[u16])
     }
 }
 
-// Writes 1 to 64 words from an address on, and answers 0 or the number of the refusal.
-pub fn write(ram: &mut [u16], address: u16, words: &[u16]) -> u8
+// Writes 1 to 64 words from an address on, on a card of so many blocks, and answers 0 or the number
+// of the refusal.
+pub fn write(ram: &mut [u16], blocks: u16, address: u16, words: &[u16]) -> u8
     ensures { λ number. ⌜ done number (now (ram .exit))
-        ≡ hostWrite (now (ram .entry)) address (now (words .entry)) ⌝ }
+        ≡ hostWrite blocks (now (ram .entry)) address (now (words .entry)) ⌝ }
 {
-    if ram.len() != CARD_WORDS {
+    let size = BLOCK_CELLS * (blocks as usize);
+    if ram.len() != size {
         return 1;
     }
     if words.len() < 1 {
         return 8;
     }
-    if words.len() > 64 {
+    if words.len() > MOST_WRITTEN {
         return 8;
     }
     let first = address as usize;
-    if first + words.len() > CARD_WORDS {
+    if first + words.len() > size {
         return 8;
     }
     write_words(ram, address, words);

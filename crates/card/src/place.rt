@@ -7,11 +7,14 @@ pub struct Block(pub u16);
 
 pub struct Cell(pub u16);
 
-pub const CARD_WORDS: usize = 16384;
+pub const BLOCK_CELLS: usize = 64;
+
+// Cells 0 to 31 hold data words.
+pub const DATA_CELLS: u16 = 32;
 
 pub const CARD_BLOCKS: u16 = 256;
 
-pub const BLOCK_CELLS: usize = 64;
+pub const CARD_WORDS: usize = 16384;
 
 // Word address = 64 × block + cell.
 pub fn word_address(block: Block, cell: Cell) -> usize

@@ -3,25 +3,28 @@ ghost use mathlib.Core.Path.{_≡_};
 ghost use lib.ListN.{length};
 ghost use Rattle.card.specs.Sent.{sentRefusal, sentPart};
 use crate::place;
+use crate::place::BLOCK_CELLS;
 use crate::place::Block;
 use crate::place::CARD_BLOCKS;
-use crate::place::CARD_WORDS;
 use crate::place::Cell;
+use crate::place::DATA_CELLS;
 
-// The number of the part's refusal, and 0 where it is shown.
-pub fn refusal(ram: &[u16], block: u16, count: u16) -> u8
-    ensures { λ number. ⌜ number ≡ sentRefusal (length (now (ram .entry))) block count ⌝ }
+// The number of the part's refusal on a card of so many blocks, and 0 where it is shown.
+pub fn refusal(ram: &[u16], blocks: u16, block: u16, count: u16) -> u8
+    ensures { λ number. ⌜ number
+        ≡ sentRefusal blocks (length (now (ram .entry))) block count ⌝ }
 {
-    if ram.len() != CARD_WORDS {
+    let size = BLOCK_CELLS * (blocks as usize);
+    if ram.len() != size {
         return 1;
     }
-    if CARD_BLOCKS <= block {
+    if blocks <= block {
         return 8;
     }
     if count < 1 {
         return 8;
     }
-    if count > 32 {
+    if count > DATA_CELLS {
         return 8;
     }
     0
@@ -31,7 +34,7 @@ pub fn refusal(ram: &[u16], block: u16, count: u16) -> u8
 pub fn part(ram: &[u16], block: u16, count: u16) -> &[u16]
     ensures { λ words. ⌜ now words ≡ sentPart (now (ram .entry)) block count ⌝ }
 {
-    if refusal(ram, block, count) != 0 {
+    if refusal(ram, CARD_BLOCKS, block, count) != 0 {
         return &ram[0..0];
     }
     let start = place::word_address(Block(block), Cell(0));

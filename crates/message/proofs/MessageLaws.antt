@@ -9,9 +9,11 @@ use Rattle.message.specs.Message.{movedMessage}
 use Rattle.message.specs.Fitness.{fitOpen, fitMessage}
 
 -- fitness, where a message is open
-pub open-is-fit : (message : Message) (held : OpenMessage) (station : ℕ) (fit : Bool)
-    → message ≡ Open held → fit ≡ fitOpen station held → fit ≡ fitMessage message station
-open-is-fit message held station fit is same = rw is same
+pub open-is-fit : (blocks : ℕ) (message : Message) (held : OpenMessage) (station : ℕ)
+    (fit : Bool)
+    → message ≡ Open held → fit ≡ fitOpen blocks station held
+    → fit ≡ fitMessage blocks message station
+open-is-fit blocks message held station fit is same = rw is same
 
 -- a table move, where a message is open
 pub moved-open : (message : Message) (held : OpenMessage) → message ≡ Open held

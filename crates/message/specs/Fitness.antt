@@ -4,6 +4,7 @@ use mathlib.Core.Bool.{Bool, true, not, _&&_, _||_}
 use Prim.Native.Nat.{ℕ}
 use lib.Dec.{eqb, leb}
 use Rattle.bus.specs.Command.{addressOf, isBroadcast}
+use Rattle.card.specs.Memory.{isBlock}
 use Rattle.message.specs.declared.state.Stage.{Stage}
 use Rattle.message.specs.declared.state.Stage.the-variants.{
   Data,
@@ -33,17 +34,17 @@ fitStage SecondCommand illegal second taken = not illegal && hasSecond second &&
 fitStage AwaitingStatus illegal second taken = not illegal && hasSecond second && eqb taken 0
 fitStage Skipping illegal second taken = illegal
 
--- the open command's address is the station or 31; its block and table block are at most 255; words
--- taken are at most those it wants; and its stage
-unfoldable pub fitOpen : ℕ → OpenMessage → Bool
-fitOpen station message =
+-- on a card of so many blocks: the open command's address is the station or 31; its block and table
+-- block are blocks of the card; words taken are at most those it wants; and its stage
+unfoldable pub fitOpen : ℕ → ℕ → OpenMessage → Bool
+fitOpen blocks station message =
     (eqb (addressOf (message .command)) station || isBroadcast (message .command))
-    && leb (message .block) 255
-    && leb (message .home) 255
+    && isBlock blocks (message .block)
+    && isBlock blocks (message .home)
     && leb (message .taken) (asks message .takes)
     && fitSecond (message .second) station (message .command) (asks message .receive)
     && fitStage (message .stage) (asks message .illegal) (message .second) (message .taken)
 
-abbrev pub fitMessage : Message → ℕ → Bool
-fitMessage Idle station = true
-fitMessage (Open message) station = fitOpen station message
+abbrev pub fitMessage : ℕ → Message → ℕ → Bool
+fitMessage blocks Idle station = true
+fitMessage blocks (Open message) station = fitOpen blocks station message

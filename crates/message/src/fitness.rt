@@ -35,8 +35,8 @@ fn is_fit_stage(stage: Stage, illegal: bool, second: Second, taken: u16) -> bool
     }
 }
 
-fn is_fit_open(station: u16, message: OpenMessage) -> bool
-    ensures { λ fit. ⌜ fit ≡ fitOpen station message ⌝ }
+fn is_fit_open(blocks: u16, station: u16, message: OpenMessage) -> bool
+    ensures { λ fit. ⌜ fit ≡ fitOpen blocks station message ⌝ }
 {
     let address = command::address(message.command);
     let broadcast = command::is_broadcast(message.command);
@@ -46,18 +46,19 @@ fn is_fit_open(station: u16, message: OpenMessage) -> bool
     let fit_second = is_fit_second(second, station, message.command, asked.receive);
     let fit_stage = is_fit_stage(stage, asked.illegal, second, message.taken);
     ((address == station) | broadcast)
-        & (message.block <= 255)
-        & (message.home <= 255)
+        & (message.block < blocks)
+        & (message.home < blocks)
         & (message.taken <= asked.takes)
         & fit_second
         & fit_stage
 }
 
-pub fn is_fit_message(message: Message, station: u16) -> bool
-    ensures { λ fit. ⌜ fit ≡ fitMessage message station ⌝ }
+// On a card of so many blocks.
+pub fn is_fit_message(blocks: u16, message: Message, station: u16) -> bool
+    ensures { λ fit. ⌜ fit ≡ fitMessage blocks message station ⌝ }
 {
     match message {
         Message::Idle => true,
-        Message::Open(held) => is_fit_open(station, held),
+        Message::Open(held) => is_fit_open(blocks, station, held),
     }
 }

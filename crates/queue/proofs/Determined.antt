@@ -10,8 +10,6 @@ use Rattle.queue.proofs.Ring.read.Kinds as ring-read-kinds
 use Rattle.queue.proofs.Ring.read.Reads as ring-read-reads
 use Rattle.queue.proofs.Queue.empty.Kinds as empty-kinds
 use Rattle.queue.proofs.Queue.empty.Reads as empty-reads
-use Rattle.queue.proofs.Queue.join.Kinds as queue-join-kinds
-use Rattle.queue.proofs.Queue.join.Reads as queue-join-reads
 use Rattle.queue.proofs.Queue.read.Kinds as queue-read-kinds
 use Rattle.queue.proofs.Queue.read.Reads as queue-read-reads
 use Rattle.queue.proofs.Queue.is_fit.Kinds as is-fit-kinds
@@ -27,9 +25,6 @@ ring-read κs arguments result result′ exit exit′ = same
 
 pub empty : Determined 0 empty-kinds.ps empty-kinds.r empty-reads.Post
 empty κs arguments result result′ exit exit′ = same
-
-pub queue-join : Determined 0 queue-join-kinds.ps queue-join-kinds.r queue-join-reads.Post
-queue-join κs arguments result result′ exit exit′ = same
 
 pub queue-read : Determined 0 queue-read-kinds.ps queue-read-kinds.r queue-read-reads.Post
 queue-read κs arguments result result′ exit exit′ = same

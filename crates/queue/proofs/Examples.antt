@@ -63,23 +63,23 @@ a-freed-place-is-used-again :
 unfolding withJoined
 a-freed-place-is-used-again = refl
 
-the-empty-queue-is-fit : fitQueue emptyQueue ≡ true
+the-empty-queue-is-fit : fitQueue 256 emptyQueue ≡ true
 unfolding fitQueue
 the-empty-queue-is-fit = refl
 
 a-place-out-of-use-is-judged-too :
-    fitQueue (queue (set (replicate 256 0) 200 256) (ringOf 0 0 false)) ≡ false
+    fitQueue 256 (queue (set (replicate 256 0) 200 256) (ringOf 0 0 false)) ≡ false
 unfolding fitQueue
 a-place-out-of-use-is-judged-too = refl
 
-a-start-of-256-is-unfit : fitQueue (queue (replicate 256 0) (ringOf 256 0 false)) ≡ false
+a-start-of-256-is-unfit : fitQueue 256 (queue (replicate 256 0) (ringOf 256 0 false)) ≡ false
 unfolding fitQueue
 a-start-of-256-is-unfit = refl
 
-a-count-of-256-is-fit : fitQueue (queue (replicate 256 0) (ringOf 0 256 false)) ≡ true
+a-count-of-256-is-fit : fitQueue 256 (queue (replicate 256 0) (ringOf 0 256 false)) ≡ true
 unfolding fitQueue
 a-count-of-256-is-fit = refl
 
-a-count-of-257-is-unfit : fitQueue (queue (replicate 256 0) (ringOf 0 257 false)) ≡ false
+a-count-of-257-is-unfit : fitQueue 256 (queue (replicate 256 0) (ringOf 0 257 false)) ≡ false
 unfolding fitQueue
 a-count-of-257-is-unfit = refl

@@ -6,7 +6,6 @@ use Prim.Native.Nat.{ℕ, suc, _+_, _-_, _%_, _≤_, _<_}
 use native.Mathlib.Nat.{zero-add}
 use native.Mathlib.Omega.{arith}
 use native.Mathlib.Numerals.{add-one}
-use lib.Dec.{leb}
 use lib.ListN.{length, getD, set, drop, drop-of-length-le}
 use lib.Seq.{drop-cons}
 use borrow.Author.Tests.{lt-ltb, le-ltb, eq-eqb, ne-eqb}
@@ -22,6 +21,7 @@ use Rattle.queue.specs.Queue.{
   oldestWord,
   withoutOldest,
   readFrom,
+  fitPlace,
   fitPlaces,
 }
 
@@ -74,23 +74,26 @@ pub ruleset reads = (read-none, read-oldest)
 
 -- ---- the scan for fitness: what is left to judge, behind what was found so far
 
-pub record Judging (wanted : Bool) (fit : Bool) (places : List ℕ) (place : ℕ) : Type 0 where
-  pub comes-to : wanted ≡ fit && fitPlaces (drop place places)
+pub record Judging (blocks : ℕ) (wanted : Bool) (fit : Bool) (places : List ℕ) (place : ℕ) : Type 0
+  where
+    pub comes-to : wanted ≡ fit && fitPlaces blocks (drop place places)
 
-pub judging-all : (places : List ℕ) → Judging (fitPlaces places) true places 0
-judging-all places = record { comes-to = refl }
+pub judging-all : (blocks : ℕ) (places : List ℕ)
+    → Judging blocks (fitPlaces blocks places) true places 0
+judging-all blocks places = record { comes-to = refl }
 
-module _ {wanted fit : Bool} {places : List ℕ} {place : ℕ}
-    (judging : Judging wanted fit places place) where
+module _ {blocks : ℕ} {wanted fit : Bool} {places : List ℕ} {place : ℕ}
+    (judging : Judging blocks wanted fit places place) where
   pub judging-less : place < length places
-      → Judging wanted (fit && leb (getD places place 0) 255) places (place + 1)
+      → Judging blocks wanted (fit && fitPlace blocks (getD places place 0)) places (place + 1)
   judging-less inside =
       record {
         comes-to =
             judging .comes-to
             ∙ rw (add-one place, drop-cons places place 0 inside)
             (sym
-            (and-assoc fit (leb (getD places place 0) 255) (fitPlaces (drop (suc place) places))));
+            (and-assoc fit (fitPlace blocks (getD places place 0))
+            (fitPlaces blocks (drop (suc place) places))));
       }
 
   pub judging-none : (count : ℕ) → length places ≡ count → count ≤ place → fit ≡ wanted

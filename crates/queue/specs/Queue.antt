@@ -66,10 +66,16 @@ readOf old =
 
 -- ---- fitness, as refusal 4 judges it: all 256 places, in use or not
 
-abbrev pub fitPlaces : List ℕ → Bool
-fitPlaces [] = true
-fitPlaces (place ∷ places) = leb place 255 && fitPlaces places
+-- a place holds the number of a block, on a card of so many
+abbrev pub fitPlace : ℕ → ℕ → Bool
+fitPlace blocks place = ltb place blocks
 
-unfoldable pub fitQueue : Queue → Bool
-fitQueue old =
-    leb (old .ring .start) 255 && leb (old .ring .count) queuePlaces && fitPlaces (old .places)
+abbrev pub fitPlaces : ℕ → List ℕ → Bool
+fitPlaces blocks [] = true
+fitPlaces blocks (place ∷ places) = fitPlace blocks place && fitPlaces blocks places
+
+unfoldable pub fitQueue : ℕ → Queue → Bool
+fitQueue blocks old =
+    ltb (old .ring .start) queuePlaces
+    && leb (old .ring .count) queuePlaces
+    && fitPlaces blocks (old .places)

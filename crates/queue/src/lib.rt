@@ -12,6 +12,9 @@ ghost use Rattle.queue.specs.Queue.{
   fitPlaces,
 };
 
+// The places of the queue.
+pub const QUEUE_PLACES: u16 = 256;
+
 pub struct Ring {
     pub start: u16,
     pub count: u16,
@@ -78,15 +81,15 @@ impl Ring {
     }
 }
 
-// Whether every place holds a block number, in use or not. The loop has no branch, so that the scan
-// runs at the speed of memory.
-fn places_fit(places: [u16; 256]) -> bool
-    ensures { λ fit. ⌜ fit ≡ fitPlaces places ⌝ }
+// Whether every place holds the number of a block, in use or not. The loop has no branch, so that
+// the scan runs at the speed of memory.
+fn places_fit(places: [u16; 256], blocks: u16) -> bool
+    ensures { λ fit. ⌜ fit ≡ fitPlaces blocks places ⌝ }
 {
     let mut fit = true;
     let mut place: usize = 0;
     while place < 256 {
-        fit = fit & (places[place] <= 255);
+        fit = fit & (places[place] < blocks);
         place += 1;
     }
     fit
@@ -107,18 +110,6 @@ impl Queue {
         }
     }
 
-    pub fn join(self, block: u16) -> Queue
-        ensures { λ joined. ⌜ joined ≡ withJoined block self ⌝ }
-    {
-        let mut places = self.places;
-        let old = self.ring;
-        let ring = old.join(&mut places, block);
-        Queue {
-            places: places,
-            ring: ring,
-        }
-    }
-
     pub fn read(self) -> QueueRead
         ensures { λ taken. ⌜ taken ≡ readOf self ⌝ }
     {
@@ -135,13 +126,13 @@ impl Queue {
         }
     }
 
-    // Start and places at most 255, count at most 256.
-    pub fn is_fit(self) -> bool
-        ensures { λ fit. ⌜ fit ≡ fitQueue self ⌝ }
+    // Whether start, count and all places are fit, on a card of so many blocks.
+    pub fn is_fit(self, blocks: u16) -> bool
+        ensures { λ fit. ⌜ fit ≡ fitQueue blocks self ⌝ }
     {
         let places = self.places;
         let ring = self.ring;
-        let fit = places_fit(places);
-        (ring.start <= 255) & (ring.count <= 256) & fit
+        let fit = places_fit(places, blocks);
+        (ring.start < QUEUE_PLACES) & (ring.count <= QUEUE_PLACES) & fit
     }
 }

@@ -3,7 +3,8 @@
 use mathlib.Core.Path.{_≡_}
 use mathlib.Core.Bool.{Bool, _&&_}
 use Prim.Native.Nat.{ℕ}
-use lib.Dec.{leb}
+use Rattle.bus.specs.Limits.{isStation, areFlags}
+use Rattle.card.specs.Memory.{isBlock}
 use Rattle.message.specs.declared.state.Message.{Message}
 use Rattle.message.specs.Message.{movedMessage}
 use Rattle.message.specs.Fitness.{fitMessage}
@@ -16,8 +17,9 @@ pub table-moved : (old core : Core) (message : Message) (table : ℕ)
     → withTable table core ≡ withTable table (withMessage (movedMessage (old .message)) old)
 table-moved old core message table is-message is-core = rw (is-core, is-message)
 
-pub fit-core-is : (core : Core) (fit : Bool) → fit ≡ fitMessage (core .message) (core .station)
-    → (leb (core .station) 30 && leb (core .table) 255 && leb (core .flags) 63 && fit)
-    ≡ fitCore core
+pub fit-core-is : (blocks : ℕ) (core : Core) (fit : Bool)
+    → fit ≡ fitMessage blocks (core .message) (core .station)
+    → (isStation (core .station) && isBlock blocks (core .table) && areFlags (core .flags) && fit)
+    ≡ fitCore blocks core
 unfolding fitCore
-fit-core-is core fit is = rw is
+fit-core-is blocks core fit is = rw is

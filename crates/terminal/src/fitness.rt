@@ -2,15 +2,18 @@
 ghost use mathlib.Core.Path.{_≡_};
 ghost use Rattle.terminal.specs.Fitness.{fitCore};
 use crate::state::Core;
+use bus::limits::ALL_FLAGS;
+use bus::limits::LAST_STATION;
 use message::fitness;
 
 impl Core {
-    // Station, table and flags as setup takes them, and the open message.
-    pub fn is_fit(self) -> bool
-        ensures { λ fit. ⌜ fit ≡ fitCore self ⌝ }
+    // Station, table and flags as setup takes them, and the open message, on a card of so many
+    // blocks.
+    pub fn is_fit(self, blocks: u16) -> bool
+        ensures { λ fit. ⌜ fit ≡ fitCore blocks self ⌝ }
     {
         let message = self.message;
-        let fit = fitness::is_fit_message(message, self.station);
-        (self.station <= 30) & (self.table <= 255) & (self.flags <= 63) & fit
+        let fit = fitness::is_fit_message(blocks, message, self.station);
+        (self.station <= LAST_STATION) & (self.table < blocks) & (self.flags <= ALL_FLAGS) & fit
     }
 }

@@ -4,8 +4,8 @@
 use mathlib.Core.Path.{_≡_, refl}
 use mathlib.Core.Bool.{Bool, true, false, cond, _&&_}
 use mathlib.Core.List.{List}
-use Prim.Native.Nat.{ℕ, _≤_}
-use Rattle.card.specs.Memory.{cellAt}
+use Prim.Native.Nat.{ℕ, _<_}
+use Rattle.card.specs.Memory.{cardBlocks, cellAt}
 use Rattle.queue.specs.declared.Queue.{Queue}
 use Rattle.queue.specs.Queue.{withJoined, fitQueue}
 use Rattle.queue.proofs.FitLaws.{join-keeps-fit}
@@ -34,8 +34,8 @@ use Rattle.terminal_laws.proofs.FitMessage.{opened-fits}
 -- ---- going on and opening
 
 -- the core with another message, or none
-fit-with-message : (message : Message) (core : Core) → fitMessage message (core .station) ≡ true
-    → fitCore core ≡ true → fitCore (withMessage message core) ≡ true
+fit-with-message : (message : Message) (core : Core) → fitMessage cardBlocks message (core .station) ≡ true
+    → fitCore cardBlocks core ≡ true → fitCore cardBlocks (withMessage message core) ≡ true
 unfolding withMessage
 fit-with-message message core fit-message fit =
     let parts = fit-core-parts core fit in
@@ -75,14 +75,14 @@ fit-opening word old to-us fit =
 -- ---- closing
 
 -- the block joins the queue, or does not
-fit-closed-queue : (joins : Bool) (block : ℕ) (queue : Queue) → block ≤ 255
-    → fitQueue queue ≡ true → fitQueue (cond joins (withJoined block queue) queue) ≡ true
-fit-closed-queue true block queue on-card fit = join-keeps-fit block queue on-card fit
+fit-closed-queue : (joins : Bool) (block : ℕ) (queue : Queue) → block < cardBlocks
+    → fitQueue cardBlocks queue ≡ true → fitQueue cardBlocks (cond joins (withJoined block queue) queue) ≡ true
+fit-closed-queue true block queue on-card fit = join-keeps-fit cardBlocks block queue on-card fit
 fit-closed-queue false block queue on-card fit = fit
 
 -- nothing is open any more
 fit-closing : (asked : Asked) (state time : ℕ) (message : OpenMessage) (old : Card)
-    → message .block ≤ 255 → FitCard old → FitCard (closing asked state time message old)
+    → message .block < cardBlocks → FitCard old → FitCard (closing asked state time message old)
 unfolding closing closedQueue
 fit-closing asked state time message old on-card fit =
     record {
@@ -94,14 +94,14 @@ fit-closing asked state time message old on-card fit =
 
 -- refusal 4 asks nothing of the remembered status ..
 pub fit-faulted : (asked : Asked) (code time : ℕ) (message : OpenMessage) (old : Card)
-    → message .block ≤ 255 → FitCard old → FitCard (faulted asked code time message old)
+    → message .block < cardBlocks → FitCard old → FitCard (faulted asked code time message old)
 unfolding faulted withStatus fitCore
 fit-faulted asked code time message old on-card fit =
     fit-closing asked _ time message _ on-card (record { core = fit .core; queue = fit .queue })
 
 -- .. nor of shut lines and inhibit
 pub fit-ended : (asked : Asked) (time : ℕ) (message : OpenMessage) (old : Card)
-    → message .block ≤ 255 → FitCard old → FitCard (ended asked time message old)
+    → message .block < cardBlocks → FitCard old → FitCard (ended asked time message old)
 unfolding ended withSwitches fitCore
 fit-ended asked time message old on-card fit =
     fit-closing asked _ time message _ on-card (record { core = fit .core; queue = fit .queue })

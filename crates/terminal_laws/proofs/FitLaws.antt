@@ -2,7 +2,9 @@
 -- every run, `fit-run`. Of the events, the host's table block and
 -- flags alone have to be in order. Assumes nothing.
 use mathlib.Core.List.{List, [], _∷_}
-use Prim.Native.Nat.{_≤_}
+use Prim.Native.Nat.{_≤_, _<_}
+use Rattle.bus.specs.Limits.{allFlags}
+use Rattle.card.specs.Memory.{cardBlocks}
 use Rattle.queue.proofs.FitLaws.{read-keeps-fit}
 use Rattle.terminal.specs.State.{Card, withTable, withFlags, withMessage}
 use Rattle.terminal.specs.Event.{
@@ -37,8 +39,8 @@ FitEvent (word heard) = Unit {0}
 FitEvent (silence line time) = Unit {0}
 FitEvent queueRead = Unit {0}
 FitEvent (hostWrite address words) = Unit {0}
-FitEvent (tableMove table) = table ≤ 255
-FitEvent (flagsWrite flags) = flags ≤ 63
+FitEvent (tableMove table) = table < cardBlocks
+FitEvent (flagsWrite flags) = flags ≤ allFlags
 
 -- no event takes a fit state to an unfit one
 pub fit-stays-fit : (event : Event) (old : Card)
@@ -51,7 +53,7 @@ fit-stays-fit (silence line time) old in-order fit =
     fit-silence (old .core .message) line time old
     (fit-core-parts (old .core) (fit .core) .message) fit
 fit-stays-fit queueRead old in-order fit =
-    record { core = fit .core; queue = read-keeps-fit (old .queue) (fit .queue) }
+    record { core = fit .core; queue = read-keeps-fit cardBlocks (old .queue) (fit .queue) }
 fit-stays-fit (hostWrite address words) old in-order fit =
     record { core = fit .core; queue = fit .queue }
 fit-stays-fit (tableMove table) old in-order fit =

@@ -3,11 +3,12 @@
 -- block. Assumes nothing.
 use mathlib.Core.Path.{_≡_, refl}
 use mathlib.Core.Bool.{Bool, true, false, cond}
-use Prim.Native.Nat.{ℕ, _+_, _≤_}
+use Prim.Native.Nat.{ℕ, _+_, _≤_, _<_}
 use native.Mathlib.Omega.{arith}
 use lib.Dec.{eqb, leb}
 use borrow.Author.Tests.{leb-false}
 use Rattle.rules.proofs.Cases.{both}
+use Rattle.card.specs.Memory.{cardBlocks}
 use Rattle.card.specs.TableWord.{blockOf}
 use Rattle.message.specs.declared.state.Stage.the-variants.{
   Data,
@@ -31,7 +32,7 @@ use Rattle.terminal_laws.proofs.FitParts.{addressed, isLegal, InStage, 
 -- ---- the message that a word opens
 
 -- a table word names one of 256 blocks, and without a block the number is 0
-fit-block : (has : Bool) (entry : ℕ) → cond has (blockOf entry) 0 ≤ 255
+fit-block : (has : Bool) (entry : ℕ) → cond has (blockOf entry) 0 < cardBlocks
 fit-block true entry = omega arith
 fit-block false entry = omega arith
 
@@ -42,7 +43,7 @@ fit-first-stage false = refl
 
 -- whatever the table word is
 pub opened-fits : (entry : ℕ) (word : Word) (core : Core)
-    → addressed (core .station) (word .value) ≡ true → core .table ≤ 255
+    → addressed (core .station) (word .value) ≡ true → core .table < cardBlocks
     → FitOpen (core .station)
     (openedMessage (askedOf (word .value)) entry word core)
 unfolding openedMessage
@@ -123,7 +124,8 @@ module _ (station : ℕ) (message : OpenMessage) (fit : FitOpen station message)
 
 -- the host has set the table block
 pub moved-fits : (station : ℕ) (message : Message)
-    → fitMessage message station ≡ true → fitMessage (movedMessage message) station ≡ true
+    → fitMessage cardBlocks message station ≡ true
+    → fitMessage cardBlocks (movedMessage message) station ≡ true
 unfolding movedMessage fitOpen
 moved-fits station Idle fit = refl
 moved-fits station (Open message) fit = fit

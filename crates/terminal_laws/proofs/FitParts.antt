@@ -2,11 +2,13 @@
 -- apart into a record, `..-whole` puts it together again. Assumes nothing.
 use mathlib.Core.Path.{_≡_}
 use mathlib.Core.Bool.{Bool, true, not, _&&_, _||_}
-use Prim.Native.Nat.{ℕ, _≤_}
+use Prim.Native.Nat.{ℕ, _≤_, _<_}
 use lib.Dec.{eqb, leb}
-use borrow.Author.Tests.{leb-true, le-leb}
+use borrow.Author.Tests.{leb-true, le-leb, ltb-true, lt-ltb}
 use Rattle.rules.proofs.Halves.{first-of-both, second-of-both}
+use Rattle.bus.specs.Limits.{lastStation, isStation, allFlags, areFlags}
 use Rattle.bus.specs.Command.{addressOf, isBroadcast}
+use Rattle.card.specs.Memory.{cardBlocks, isBlock}
 use Rattle.queue.specs.Queue.{fitQueue}
 use Rattle.message.specs.declared.state.Stage.{Stage}
 use Rattle.message.specs.declared.state.OpenMessage.{OpenMessage}
@@ -35,8 +37,8 @@ InStage stage message =
 -- what is asked of an open message
 pub record FitOpen (station : ℕ) (message : OpenMessage) : Type 0 where
   pub address : addressed station (message .command) ≡ true
-  pub block : message .block ≤ 255
-  pub home : message .home ≤ 255
+  pub block : message .block < cardBlocks
+  pub home : message .home < cardBlocks
   pub taken : message .taken ≤ asks message .takes
   pub second : fitSecond (message .second) station (message .command)
       (asks message .receive) ≡ true
@@ -44,14 +46,14 @@ pub record FitOpen (station : ℕ) (message : OpenMessage) : Type 0 where
 
 -- the test taken apart ..
 pub fit-open-parts : (station : ℕ) (message : OpenMessage)
-    → fitOpen station message ≡ true → FitOpen station message
+    → fitOpen cardBlocks station message ≡ true → FitOpen station message
 unfolding fitOpen
 fit-open-parts station message fit =
     let command = message .command in
     let asked = asks message in
     let address = addressed station command in
-    let block = leb (message .block) 255 in
-    let home = leb (message .home) 255 in
+    let block = isBlock cardBlocks (message .block) in
+    let home = isBlock cardBlocks (message .home) in
     let taken = leb (message .taken) (asked .takes) in
     let second = fitSecond (message .second) station command (asked .receive) in
     let stage =
@@ -62,8 +64,8 @@ fit-open-parts station message fit =
     let to-block = first-of-both (address && block) home to-home in
     record {
       address = first-of-both address block to-block;
-      block = leb-true (message .block) 255 (second-of-both address block to-block);
-      home = leb-true (message .home) 255 (second-of-both (address && block) home to-home);
+      block = ltb-true (message .block) cardBlocks (second-of-both address block to-block);
+      home = ltb-true (message .home) cardBlocks (second-of-both (address && block) home to-home);
       taken =
           leb-true (message .taken) (asked .takes)
           (second-of-both (address && block && home) taken to-taken);
@@ -73,13 +75,13 @@ fit-open-parts station message fit =
 
 -- .. and put together again
 pub fit-open-whole : {station : ℕ} {message : OpenMessage}
-    → FitOpen station message → fitOpen station message ≡ true
+    → FitOpen station message → fitOpen cardBlocks station message ≡ true
 unfolding fitOpen
 fit-open-whole {station} {message} parts =
     rw (
       parts .address,
-      le-leb (message .block) 255 (parts .block),
-      le-leb (message .home) 255 (parts .home),
+      lt-ltb (message .block) cardBlocks (parts .block),
+      lt-ltb (message .home) cardBlocks (parts .home),
       le-leb (message .taken) (asks message .takes) (parts .taken),
       parts .second,
     ) (parts .stage)
@@ -88,48 +90,48 @@ fit-open-whole {station} {message} parts =
 
 -- what is asked of the core
 pub record FitCore (core : Core) : Type 0 where
-  pub station : core .station ≤ 30
-  pub table : core .table ≤ 255
-  pub flags : core .flags ≤ 63
-  pub message : fitMessage (core .message) (core .station) ≡ true
+  pub station : core .station ≤ lastStation
+  pub table : core .table < cardBlocks
+  pub flags : core .flags ≤ allFlags
+  pub message : fitMessage cardBlocks (core .message) (core .station) ≡ true
 
 -- the test taken apart ..
-pub fit-core-parts : (core : Core) → fitCore core ≡ true → FitCore core
+pub fit-core-parts : (core : Core) → fitCore cardBlocks core ≡ true → FitCore core
 unfolding fitCore
 fit-core-parts core fit =
-    let station = leb (core .station) 30 in
-    let table = leb (core .table) 255 in
-    let flags = leb (core .flags) 63 in
-    let message = fitMessage (core .message) (core .station) in
+    let station = isStation (core .station) in
+    let table = isBlock cardBlocks (core .table) in
+    let flags = areFlags (core .flags) in
+    let message = fitMessage cardBlocks (core .message) (core .station) in
     let to-flags = first-of-both (station && table && flags) message fit in
     let to-table = first-of-both (station && table) flags to-flags in
     record {
-      station = leb-true (core .station) 30 (first-of-both station table to-table);
-      table = leb-true (core .table) 255 (second-of-both station table to-table);
-      flags = leb-true (core .flags) 63 (second-of-both (station && table) flags to-flags);
+      station = leb-true (core .station) lastStation (first-of-both station table to-table);
+      table = ltb-true (core .table) cardBlocks (second-of-both station table to-table);
+      flags = leb-true (core .flags) allFlags (second-of-both (station && table) flags to-flags);
       message = second-of-both (station && table && flags) message fit;
     }
 
 -- .. and put together again
-pub fit-core-whole : {core : Core} → FitCore core → fitCore core ≡ true
+pub fit-core-whole : {core : Core} → FitCore core → fitCore cardBlocks core ≡ true
 unfolding fitCore
 fit-core-whole {core} parts =
     rw (
-      le-leb (core .station) 30 (parts .station),
-      le-leb (core .table) 255 (parts .table),
-      le-leb (core .flags) 63 (parts .flags),
+      le-leb (core .station) lastStation (parts .station),
+      lt-ltb (core .table) cardBlocks (parts .table),
+      le-leb (core .flags) allFlags (parts .flags),
     ) (parts .message)
 
 -- the message that is open in a fit core
 pub open-parts : (core : Core) (message : OpenMessage)
-    → fitCore core ≡ true → core .message ≡ Open message → FitOpen (core .station) message
+    → fitCore cardBlocks core ≡ true → core .message ≡ Open message → FitOpen (core .station) message
 open-parts core message fit is =
     fit-open-parts (core .station) message (rw is at (fit-core-parts core fit .message))
 
 -- its block and its table block are blocks of the card
 pub open-block-fits : (core : Core) (message : OpenMessage)
-    → fitCore core ≡ true → core .message ≡ Open message
-    → (message .block ≤ 255) × (message .home ≤ 255)
+    → fitCore cardBlocks core ≡ true → core .message ≡ Open message
+    → (message .block < cardBlocks) × (message .home < cardBlocks)
 open-block-fits core message fit is =
     let parts = open-parts core message fit is in
     (parts .block, parts .home)
@@ -138,15 +140,15 @@ open-block-fits core message fit is =
 
 -- the terminal of the card is fit, core and queue
 pub record FitCard (old : Card) : Type 0 where
-  pub core : fitCore (old .core) ≡ true
-  pub queue : fitQueue (old .queue) ≡ true
+  pub core : fitCore cardBlocks (old .core) ≡ true
+  pub queue : fitQueue cardBlocks (old .queue) ≡ true
 
 -- the test by which the actions refuse, taken apart ..
 pub fit-card-parts : (old : Card) → fitCard old ≡ true → FitCard old
 fit-card-parts old fit =
     record {
-      core = first-of-both (fitCore (old .core)) (fitQueue (old .queue)) fit;
-      queue = second-of-both (fitCore (old .core)) (fitQueue (old .queue)) fit;
+      core = first-of-both (fitCore cardBlocks (old .core)) (fitQueue cardBlocks (old .queue)) fit;
+      queue = second-of-both (fitCore cardBlocks (old .core)) (fitQueue cardBlocks (old .queue)) fit;
     }
 
 -- .. and put together again

@@ -2,6 +2,7 @@
 use mathlib.Core.Path.{_≡_}
 use mathlib.Core.Bool.{Bool, true, false, cond, not, Bool·beq}
 use Prim.Native.Nat.{ℕ}
+use Rattle.card.specs.Memory.{cardBlocks}
 use lib.Dec.{ltb}
 use Rattle.message.specs.declared.asked.Asked.{Asked}
 use Rattle.message.specs.declared.judge.SilenceAct.the-variants.{Ignore, Fault, End}
@@ -59,7 +60,7 @@ module _ (message : OpenMessage) (time : ℕ) (old : Card)
 
 -- a silence, whether or not a message is open
 pub fit-silence : (message : Message) (line : Bool) (time : ℕ) (old : Card)
-    → fitMessage message (old .core .station) ≡ true → FitCard old
+    → fitMessage cardBlocks message (old .core .station) ≡ true → FitCard old
     → FitCard (silenceMet message line time old .card)
 fit-silence Idle line time old fit-message fit = fit
 fit-silence (Open message) line time old fit-message fit =

@@ -8,6 +8,7 @@ use lib.Dec.{eqb}
 use Rattle.rules.proofs.Cases.{at-first}
 use Rattle.rules.proofs.Halves.{first-of-both, second-of-both}
 use Rattle.bus.specs.Command.{addressOf, isBroadcast}
+use Rattle.card.specs.Memory.{cardBlocks}
 use Rattle.message.specs.declared.judge.WordAct.{WordAct}
 use Rattle.message.specs.declared.judge.WordAct.the-variants.{
   Ignore,
@@ -207,7 +208,7 @@ fit-word-idle false word old own fit = fit
 
 -- a word, whether or not a message is open
 pub fit-word : (message : Message) (word : Word) (old : Card)
-    → fitMessage message (old .core .station) ≡ true → FitCard old
+    → fitMessage cardBlocks message (old .core .station) ≡ true → FitCard old
     → FitCard (wordMet message word old .card)
 fit-word Idle word old fit-message fit =
     fit-word-idle (ownCommand (old .core .station) (old .core .flags) word) word old refl fit

@@ -2,12 +2,15 @@
 -- is said by `Actions`. Definitions only. Assumes nothing.
 use mathlib.Core.Bool.{Bool, cond, not}
 use Prim.Native.Nat.{ℕ}
-use lib.Dec.{leb}
+use Rattle.bus.specs.Limits.{isStation, areFlags}
+use Rattle.card.specs.Memory.{cardBlocks, isBlock}
 
--- setup: 2 station above 30, 3 table block above 255, 8 flags above 63
+-- setup: 2 no station, 3 no block of the card, 8 spare bits in the flags
 abbrev pub setupRefusal : ℕ → ℕ → ℕ → ℕ
 setupRefusal station table flags =
-    cond (not (leb station 30)) 2 (cond (not (leb table 255)) 3 (cond (not (leb flags 63)) 8 0))
+    cond (not (isStation station)) 2
+    (cond (not (isBlock cardBlocks table)) 3
+    (cond (not (areFlags flags)) 8 0))
 
 -- on the terminal alone: 4 not fit, then the action's own number where its input is not in order
 abbrev pub aloneRefusal : Bool → Bool → ℕ → ℕ

@@ -10,11 +10,11 @@ use Rattle.queue.proofs.places_fit.Statement.{statement}
 use Rattle.queue.proofs.places_fit.Tie as tie
 
 abbrev Inv-loop : tie.InvT-loop
-Inv-loop places fit₀ place₀ fit place =
-    (place ≤ 256) × (length places ≡ 256) × Judging (fitPlaces places) fit places place
+Inv-loop blocks places fit₀ place₀ fit place =
+    (place ≤ 256) × (length places ≡ 256) × Judging blocks (fitPlaces blocks places) fit places place
 
 abbrev μ-loop : tie.MeasureT-loop
-μ-loop places fit₀ place₀ fit place = 256 - place
+μ-loop blocks places fit₀ place₀ fit place = 256 - place
 
 loop-holds : tie.Need-loop-holds Inv-loop μ-loop
 loop-holds c = search (needs, judging-all, judging-less, judging-none)

@@ -6,6 +6,9 @@ use Rattle.card.proofs.HostLaws.{done-ram}
 use Rattle.card.proofs.host.write.Statement.{statement}
 use Rattle.card.proofs.host.write.Tie as tie
 
+mul-size : tie.Need-mul-size
+mul-size c = search needs
+
 returns : tie.Need-returns
 unfolding hostWrite
 returns c = search (cases, done-ram) depth 9
@@ -39,6 +42,7 @@ pub write-spec : {M : Type 1} → statement M
 write-spec =
     tie.close
     (tie.spec
+    mul-size
     returns
     returns-2
     returns-3

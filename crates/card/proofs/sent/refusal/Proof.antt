@@ -1,8 +1,12 @@
 -- `card::sent::refusal` meets its contract, by the cases of its tests. Assumes nothing.
+use borrow.Author.Needs.{needs}
 use Rattle.rules.proofs.Cases.{cases}
 use Rattle.card.specs.Sent.{sentRefusal}
 use Rattle.card.proofs.sent.refusal.Statement.{statement}
 use Rattle.card.proofs.sent.refusal.Tie as tie
+
+mul-size : tie.Need-mul-size
+mul-size c = search needs
 
 returns : tie.Need-returns
 unfolding sentRefusal
@@ -25,4 +29,4 @@ unfolding sentRefusal
 returns-5 c = search cases depth 9
 
 pub refusal-spec : {M : Type 1} → statement M
-refusal-spec = tie.close (tie.spec returns returns-2 returns-3 returns-4 returns-5)
+refusal-spec = tie.close (tie.spec mul-size returns returns-2 returns-3 returns-4 returns-5)
