@@ -7,17 +7,18 @@ use native.Mathlib.Decide.{ℕ-discrete, decLe, decLt}
 use native.Mathlib.Omega.{arith}
 use lib.ListN.{length, take, drop}
 use borrow.Author.Tests.{eq-eqb, ne-eqb, le-leb, lt-leb, lt-ltb, le-ltb}
-use Rattle.card.specs.Memory.{cardWords, cardBlocks, wordAddress}
+use Rattle.card.specs.declared.place.Block.{Block}
+use Rattle.card.specs.Memory.{cardWords, cardBlocks, theCell, wordAddress}
 use Rattle.card.specs.Sent.{sentRefusal, sentPart}
 
 -- what is asked of a part that is shown
-pub record Shown (size block count : ℕ) : Type 0 where
+pub record Shown (size : ℕ) (block : Block) (count : ℕ) : Type 0 where
   pub whole-card : size ≡ cardWords
-  pub on-card : block < cardBlocks
+  pub on-card : block .0 < cardBlocks
   pub some : 1 ≤ count
   pub at-most-32 : count ≤ 32
 
-module _ (size block count : ℕ) where
+module _ (size : ℕ) (block : Block) (count : ℕ) where
   -- the number 0 is given for nothing else
   pub shown : sentRefusal size block count ≡ 0 → Shown size block count
   unfolding sentRefusal
@@ -28,10 +29,10 @@ module _ (size block count : ℕ) where
         | no other ↦ omega (arith, rw (ne-eqb size cardWords other) at none)
       ] in
       let asked : sentRefusal cardWords block count ≡ 0 = rw whole-card at none in
-      let on-card : block < cardBlocks =
-      elim (decLt block cardBlocks) [
+      let on-card : block .0 < cardBlocks =
+      elim (decLt (block .0) cardBlocks) [
         | yes is ↦ is
-        | no other ↦ omega (arith, rw (le-ltb block cardBlocks (omega arith)) at asked)
+        | no other ↦ omega (arith, rw (le-ltb (block .0) cardBlocks (omega arith)) at asked)
       ] in
       let some : 1 ≤ count =
       elim (decLe 1 count) [
@@ -39,7 +40,7 @@ module _ (size block count : ℕ) where
         | no other ↦
             omega (
               arith,
-              rw (lt-ltb block cardBlocks on-card, lt-leb 1 count (omega arith)) at asked,
+              rw (lt-ltb (block .0) cardBlocks on-card, lt-leb 1 count (omega arith)) at asked,
             )
       ] in
       let at-most-32 : count ≤ 32 =
@@ -49,7 +50,7 @@ module _ (size block count : ℕ) where
             omega (
               arith,
               rw (
-                lt-ltb block cardBlocks on-card,
+                lt-ltb (block .0) cardBlocks on-card,
                 le-leb 1 count some,
                 lt-leb count 32 (omega arith),
               ) at asked,
@@ -57,7 +58,7 @@ module _ (size block count : ℕ) where
       ] in
       record { whole-card = whole-card; on-card = on-card; some = some; at-most-32 = at-most-32 }
 
-module _ (ram : List ℕ) (block count number : ℕ)
+module _ (ram : List ℕ) (block : Block) (count number : ℕ)
     (asked : number ≡ sentRefusal (length ram) block count) where
   pub part-refused : (number ≡ 0 → ⊥) → [] ≡ sentPart ram block count
   unfolding sentPart
@@ -65,10 +66,10 @@ module _ (ram : List ℕ) (block count number : ℕ)
       rw (ne-eqb (sentRefusal (length ram) block count) 0 (rw asked at refused))
 
   module _ (start : ℕ) where
-    pub part-ends : number ≡ 0 → start ≡ wordAddress block 0 → start + count ≤ length ram
+    pub part-ends : number ≡ 0 → start ≡ wordAddress block (theCell 0) → start + count ≤ length ram
     part-ends none starts = omega (arith, shown (length ram) block count (sym asked ∙ none))
 
-    pub part-shown : number ≡ 0 → start ≡ wordAddress block 0
+    pub part-shown : number ≡ 0 → start ≡ wordAddress block (theCell 0)
         → take (start + count - start) (drop start ram) ≡ sentPart ram block count
     unfolding sentPart
     part-shown none starts =

@@ -4,16 +4,19 @@ use mathlib.Core.List.{List, []}
 use Prim.Native.Nat.{ℕ}
 use lib.Dec.{eqb, leb, ltb}
 use lib.ListN.{length, take, drop}
-use Rattle.card.specs.Memory.{cardWords, cardBlocks, wordAddress}
+use Rattle.card.specs.declared.place.Block.{Block}
+use Rattle.card.specs.Memory.{cardWords, cardBlocks, theCell, wordAddress}
 
 -- 1 where the RAM is not 16,384 words; 8 where the block is above 255 or the count not 1 to 32
-unfoldable pub sentRefusal : ℕ → ℕ → ℕ → ℕ
+unfoldable pub sentRefusal : ℕ → Block → ℕ → ℕ
 sentRefusal size block count =
-    cond (eqb size cardWords) (cond (ltb block cardBlocks && leb 1 count && leb count 32) 0 8) 1
+    cond (eqb size cardWords)
+    (cond (ltb (block .0) cardBlocks && leb 1 count && leb count 32) 0 8)
+    1
 
 -- the words from the block's cell 0 on; none where the part is refused
-unfoldable pub sentPart : List ℕ → ℕ → ℕ → List ℕ
+unfoldable pub sentPart : List ℕ → Block → ℕ → List ℕ
 sentPart ram block count =
     cond (eqb (sentRefusal (length ram) block count) 0)
-    (take count (drop (wordAddress block 0) ram))
+    (take count (drop (wordAddress block (theCell 0)) ram))
     []

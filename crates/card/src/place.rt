@@ -15,7 +15,7 @@ pub const BLOCK_CELLS: usize = 64;
 
 // Word address = 64 × block + cell.
 pub fn word_address(block: Block, cell: Cell) -> usize
-    ensures { λ address. ⌜ address ≡ wordAddress (block .0) (cell .0) ⌝ }
+    ensures { λ address. ⌜ address ≡ wordAddress block cell ⌝ }
 {
     BLOCK_CELLS * (block.0 as usize) + (cell.0 as usize)
 }
