@@ -38,8 +38,8 @@ fitStage Skipping illegal second taken = illegal
 unfoldable pub fitOpen : ℕ → OpenMessage → Bool
 fitOpen station message =
     (eqb (addressOf (message .command)) station || isBroadcast (message .command))
-    && leb (message .block) 255
-    && leb (message .home) 255
+    && leb (message .block .0) 255
+    && leb (message .home .0) 255
     && leb (message .taken) (asks message .takes)
     && fitSecond (message .second) station (message .command) (asks message .receive)
     && fitStage (message .stage) (asks message .illegal) (message .second) (message .taken)
