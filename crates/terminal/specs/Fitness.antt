@@ -10,7 +10,7 @@ use Rattle.terminal.specs.State.{Card}
 -- station, table and flags as setup takes them, and the open message, where there is one
 unfoldable pub fitCore : Core → Bool
 fitCore core =
-    leb (core .station) 30 && leb (core .table) 255 && leb (core .flags) 63
+    leb (core .station) 30 && leb (core .table .0) 255 && leb (core .flags) 63
     && fitMessage (core .message) (core .station)
 
 -- .. and the queue

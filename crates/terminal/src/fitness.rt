@@ -11,6 +11,6 @@ impl Core {
     {
         let message = self.message;
         let fit = fitness::is_fit_message(message, self.station);
-        (self.station <= 30) & (self.table <= 255) & (self.flags <= 63) & fit
+        (self.station <= 30) & (self.table.0 <= 255) & (self.flags <= 63) & fit
     }
 }
