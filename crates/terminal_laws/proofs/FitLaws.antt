@@ -37,7 +37,7 @@ FitEvent (word heard) = Unit {0}
 FitEvent (silence line time) = Unit {0}
 FitEvent queueRead = Unit {0}
 FitEvent (hostWrite address words) = Unit {0}
-FitEvent (tableMove table) = table ≤ 255
+FitEvent (tableMove table) = table .0 ≤ 255
 FitEvent (flagsWrite flags) = flags ≤ 63
 
 -- no event takes a fit state to an unfit one

@@ -35,8 +35,8 @@ InStage stage message =
 -- what is asked of an open message
 pub record FitOpen (station : ℕ) (message : OpenMessage) : Type 0 where
   pub address : addressed station (message .command) ≡ true
-  pub block : message .block ≤ 255
-  pub home : message .home ≤ 255
+  pub block : message .block .0 ≤ 255
+  pub home : message .home .0 ≤ 255
   pub taken : message .taken ≤ asks message .takes
   pub second : fitSecond (message .second) station (message .command)
       (asks message .receive) ≡ true
@@ -50,8 +50,8 @@ fit-open-parts station message fit =
     let command = message .command in
     let asked = asks message in
     let address = addressed station command in
-    let block = leb (message .block) 255 in
-    let home = leb (message .home) 255 in
+    let block = leb (message .block .0) 255 in
+    let home = leb (message .home .0) 255 in
     let taken = leb (message .taken) (asked .takes) in
     let second = fitSecond (message .second) station command (asked .receive) in
     let stage =
@@ -62,8 +62,8 @@ fit-open-parts station message fit =
     let to-block = first-of-both (address && block) home to-home in
     record {
       address = first-of-both address block to-block;
-      block = leb-true (message .block) 255 (second-of-both address block to-block);
-      home = leb-true (message .home) 255 (second-of-both (address && block) home to-home);
+      block = leb-true (message .block .0) 255 (second-of-both address block to-block);
+      home = leb-true (message .home .0) 255 (second-of-both (address && block) home to-home);
       taken =
           leb-true (message .taken) (asked .takes)
           (second-of-both (address && block && home) taken to-taken);
@@ -78,8 +78,8 @@ unfolding fitOpen
 fit-open-whole {station} {message} parts =
     rw (
       parts .address,
-      le-leb (message .block) 255 (parts .block),
-      le-leb (message .home) 255 (parts .home),
+      le-leb (message .block .0) 255 (parts .block),
+      le-leb (message .home .0) 255 (parts .home),
       le-leb (message .taken) (asks message .takes) (parts .taken),
       parts .second,
     ) (parts .stage)
@@ -89,7 +89,7 @@ fit-open-whole {station} {message} parts =
 -- what is asked of the core
 pub record FitCore (core : Core) : Type 0 where
   pub station : core .station ≤ 30
-  pub table : core .table ≤ 255
+  pub table : core .table .0 ≤ 255
   pub flags : core .flags ≤ 63
   pub message : fitMessage (core .message) (core .station) ≡ true
 
@@ -98,14 +98,14 @@ pub fit-core-parts : (core : Core) → fitCore core ≡ true → FitCore core
 unfolding fitCore
 fit-core-parts core fit =
     let station = leb (core .station) 30 in
-    let table = leb (core .table) 255 in
+    let table = leb (core .table .0) 255 in
     let flags = leb (core .flags) 63 in
     let message = fitMessage (core .message) (core .station) in
     let to-flags = first-of-both (station && table && flags) message fit in
     let to-table = first-of-both (station && table) flags to-flags in
     record {
       station = leb-true (core .station) 30 (first-of-both station table to-table);
-      table = leb-true (core .table) 255 (second-of-both station table to-table);
+      table = leb-true (core .table .0) 255 (second-of-both station table to-table);
       flags = leb-true (core .flags) 63 (second-of-both (station && table) flags to-flags);
       message = second-of-both (station && table && flags) message fit;
     }
@@ -116,7 +116,7 @@ unfolding fitCore
 fit-core-whole {core} parts =
     rw (
       le-leb (core .station) 30 (parts .station),
-      le-leb (core .table) 255 (parts .table),
+      le-leb (core .table .0) 255 (parts .table),
       le-leb (core .flags) 63 (parts .flags),
     ) (parts .message)
 
@@ -129,7 +129,7 @@ open-parts core message fit is =
 -- its block and its table block are blocks of the card
 pub open-block-fits : (core : Core) (message : OpenMessage)
     → fitCore core ≡ true → core .message ≡ Open message
-    → (message .block ≤ 255) × (message .home ≤ 255)
+    → (message .block .0 ≤ 255) × (message .home .0 ≤ 255)
 open-block-fits core message fit is =
     let parts = open-parts core message fit is in
     (parts .block, parts .home)
