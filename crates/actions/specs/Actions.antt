@@ -6,7 +6,8 @@ use Prim.Native.Nat.{ℕ, _+_}
 use lib.Dec.{eqb, leb}
 use lib.ListN.{length}
 use Rattle.bus.specs.Word.{wordOf}
-use Rattle.card.specs.Memory.{cardWords}
+use Rattle.card.specs.declared.place.Block.{Block}
+use Rattle.card.specs.Memory.{cardWords, theBlock}
 use Rattle.queue.specs.declared.Queue.{Queue}
 use Rattle.queue.specs.Queue.{emptyQueue}
 use Rattle.terminal.specs.declared.state.Core.{Core}
@@ -91,7 +92,8 @@ readQueueAction old =
     cond (not (fitCard old)) (after 4 (queueWord 0) old) (took (step queueRead old))
 
 unfoldable pub moveTableAction : ℕ → Card → After
-moveTableAction table = withoutMemory (leb table 255) 3 (replied Silent) (tableMove table)
+moveTableAction table =
+    withoutMemory (leb table 255) 3 (replied Silent) (tableMove (theBlock table))
 
 unfoldable pub setFlagsAction : ℕ → Card → After
 setFlagsAction flags = withoutMemory (leb flags 63) 8 (replied Silent) (flagsWrite flags)
@@ -101,12 +103,12 @@ setFlagsAction flags = withoutMemory (leb flags 63) 8 (replied Silent) (flagsWri
 abbrev pub terminal : Core → Queue → Terminal
 terminal core queue = record { core = core; queue = queue }
 
-unfoldable pub terminalAtSetup : ℕ → ℕ → ℕ → Terminal
+unfoldable pub terminalAtSetup : ℕ → Block → ℕ → Terminal
 terminalAtSetup station table flags = terminal (coreAtSetup station table flags) emptyQueue
 
 -- no terminal: every action refuses it with 4
 abbrev pub noTerminal : Terminal
-noTerminal = terminalAtSetup 31 0 0
+noTerminal = terminalAtSetup 31 (theBlock 0) 0
 
 abbrev pub settled : ℕ → Terminal → Done
 settled refusal given = record { refusal = refusal; terminal = given }
@@ -117,4 +119,4 @@ setupAction station table flags =
     cond (not (leb station 30)) (settled 2 noTerminal)
     (cond (not (leb table 255)) (settled 3 noTerminal)
     (cond (not (leb flags 63)) (settled 8 noTerminal)
-    (settled 0 (terminalAtSetup station table flags))))
+    (settled 0 (terminalAtSetup station (theBlock table) flags))))

@@ -16,6 +16,7 @@ use crate::Done;
 use crate::QueueAnswered;
 use crate::Terminal;
 use card::host;
+use card::place::Block;
 
 impl Terminal {
     // The host writes 1 to 64 words from an address on.
@@ -75,7 +76,7 @@ impl Terminal {
             };
         }
         let old = self.core;
-        let core = old.move_table(table);
+        let core = old.move_table(Block(table));
         self.core = core;
         Done {
             refusal: 0,
