@@ -10,7 +10,8 @@ use lib.Seq.{sets}
 use borrow.Author.Tests.{eq-eqb, ne-eqb}
 use Rattle.bus.specs.Limits.{isStation, areFlags}
 use Rattle.bus.specs.Word.{wordOf}
-use Rattle.card.specs.Memory.{cardBlocks, cardWords, isBlock}
+use Rattle.card.specs.declared.place.Block.{Block}
+use Rattle.card.specs.Memory.{cardBlocks, cardWords, theBlock, isBlock}
 use Rattle.card.specs.Host as host
 use Rattle.card.specs.Host.{isWrite}
 use Rattle.queue.specs.declared.QueueRead.{QueueRead}
@@ -245,7 +246,7 @@ module _ (given : Terminal) (fit : Bool) (is-fit : fit ≡ fitTerminal given) wh
   read-took taken is-sound is-taken = rw (← is-fit, is-sound, is-taken)
 
 module _ (given : Terminal) (core : Core) where
-  pub table-took : (table : ℕ)
+  pub table-took : (table : Block)
       → core ≡ withTable table (withMessage (movedMessage (given .core .message)) (given .core))
       → after 0 (replied Silent) (card core (given .queue) [])
       ≡ took (step (tableMove table) (alone given))
@@ -269,7 +270,7 @@ pub ruleset on-terminal = (
 
 -- ---- setup
 
-pub setup-is : (station table flags : ℕ) (core : Core) (queue : Queue)
+pub setup-is : (station : ℕ) (table : Block) (flags : ℕ) (core : Core) (queue : Queue)
     → core ≡ coreAtSetup station table flags → queue ≡ emptyQueue
     → terminal core queue ≡ terminalAtSetup station table flags
 unfolding terminalAtSetup
@@ -278,18 +279,18 @@ setup-is station table flags core queue is is′ = rw (is, is′)
 module _ (station table flags : ℕ) where
   settled-by : setupAction station table flags
       ≡ cond (eqb (setupRefusal station table flags) 0)
-      (settled 0 (terminalAtSetup station table flags))
+      (settled 0 (terminalAtSetup station (theBlock table) flags))
       (settled (setupRefusal station table flags) noTerminal)
   unfolding setupAction
-  settled-by = go (isStation station) (isBlock cardBlocks table) (areFlags flags)
+  settled-by = go (isStation station) (isBlock cardBlocks (theBlock table)) (areFlags flags)
     where
       go : (one two three : Bool)
           → cond (not one) (settled 2 noTerminal)
           (cond (not two) (settled 3 noTerminal)
           (cond (not three) (settled 8 noTerminal)
-          (settled 0 (terminalAtSetup station table flags))))
+          (settled 0 (terminalAtSetup station (theBlock table) flags))))
           ≡ cond (eqb (cond (not one) 2 (cond (not two) 3 (cond (not three) 8 0))) 0)
-          (settled 0 (terminalAtSetup station table flags))
+          (settled 0 (terminalAtSetup station (theBlock table) flags))
           (settled (cond (not one) 2 (cond (not two) 3 (cond (not three) 8 0))) noTerminal)
       go false two three = refl
       go true false three = refl
@@ -302,7 +303,7 @@ module _ (station table flags : ℕ) where
     setup-refused other is-given =
         rw (settled-by, ← is, ne-eqb number 0 other, is-given)
 
-    pub setup-settled : number ≡ 0 → given ≡ terminalAtSetup station table flags
+    pub setup-settled : number ≡ 0 → given ≡ terminalAtSetup station (theBlock table) flags
         → settled 0 given ≡ setupAction station table flags
     setup-settled none is-given = rw (settled-by, ← is, eq-eqb number 0 none, is-given)
 

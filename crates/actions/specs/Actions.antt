@@ -7,7 +7,8 @@ use lib.Dec.{eqb}
 use lib.ListN.{length}
 use Rattle.bus.specs.Limits.{allStations, isStation, areFlags, areMarks, isLine}
 use Rattle.bus.specs.Word.{wordOf}
-use Rattle.card.specs.Memory.{cardBlocks, cardWords, isBlock}
+use Rattle.card.specs.declared.place.Block.{Block}
+use Rattle.card.specs.Memory.{cardBlocks, cardWords, theBlock, isBlock}
 use Rattle.card.specs.Host.{isWrite}
 use Rattle.queue.specs.declared.Queue.{Queue}
 use Rattle.queue.specs.Queue.{emptyQueue}
@@ -91,7 +92,9 @@ readQueueAction old =
     cond (not (fitCard old)) (after 4 (queueWord 0) old) (took (step queueRead old))
 
 unfoldable pub moveTableAction : ℕ → Card → After
-moveTableAction table = withoutMemory (isBlock cardBlocks table) 3 (replied Silent) (tableMove table)
+moveTableAction table =
+    withoutMemory (isBlock cardBlocks (theBlock table)) 3 (replied Silent)
+    (tableMove (theBlock table))
 
 unfoldable pub setFlagsAction : ℕ → Card → After
 setFlagsAction flags = withoutMemory (areFlags flags) 8 (replied Silent) (flagsWrite flags)
@@ -101,12 +104,12 @@ setFlagsAction flags = withoutMemory (areFlags flags) 8 (replied Silent) (flagsW
 abbrev pub terminal : Core → Queue → Terminal
 terminal core queue = record { core = core; queue = queue }
 
-unfoldable pub terminalAtSetup : ℕ → ℕ → ℕ → Terminal
+unfoldable pub terminalAtSetup : ℕ → Block → ℕ → Terminal
 terminalAtSetup station table flags = terminal (coreAtSetup station table flags) emptyQueue
 
 -- no terminal: of no station, so that every action refuses it with 4
 abbrev pub noTerminal : Terminal
-noTerminal = terminalAtSetup allStations 0 0
+noTerminal = terminalAtSetup allStations (theBlock 0) 0
 
 abbrev pub settled : ℕ → Terminal → Done
 settled refusal given = record { refusal = refusal; terminal = given }
@@ -115,6 +118,6 @@ settled refusal given = record { refusal = refusal; terminal = given }
 unfoldable pub setupAction : ℕ → ℕ → ℕ → Done
 setupAction station table flags =
     cond (not (isStation station)) (settled 2 noTerminal)
-    (cond (not (isBlock cardBlocks table)) (settled 3 noTerminal)
+    (cond (not (isBlock cardBlocks (theBlock table))) (settled 3 noTerminal)
     (cond (not (areFlags flags)) (settled 8 noTerminal)
-    (settled 0 (terminalAtSetup station table flags))))
+    (settled 0 (terminalAtSetup station (theBlock table) flags))))

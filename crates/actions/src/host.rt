@@ -17,6 +17,7 @@ use crate::QueueAnswered;
 use crate::Terminal;
 use bus::limits::ALL_FLAGS;
 use card::host;
+use card::place::Block;
 use card::place::CARD_BLOCKS;
 
 impl Terminal {
@@ -77,7 +78,7 @@ impl Terminal {
             };
         }
         let old = self.core;
-        let core = old.move_table(table);
+        let core = old.move_table(Block(table));
         self.core = core;
         Done {
             refusal: 0,

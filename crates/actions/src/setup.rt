@@ -5,12 +5,13 @@ use crate::Done;
 use crate::Terminal;
 use crate::refusal;
 use bus::limits::ALL_STATIONS;
+use card::place::Block;
 use queue::Queue;
 use terminal::state::Core;
 
 impl Terminal {
     // A terminal as setup leaves it.
-    fn at_setup(station: u16, table: u16, flags: u16) -> Terminal
+    fn at_setup(station: u16, table: Block, flags: u16) -> Terminal
         ensures { λ terminal. ⌜ terminal ≡ terminalAtSetup station table flags ⌝ }
     {
         let core = Core::at_setup(station, table, flags);
@@ -30,12 +31,12 @@ impl Terminal {
         if refusal != 0 {
             return Done {
                 refusal: refusal,
-                terminal: Terminal::at_setup(ALL_STATIONS, 0, 0),
+                terminal: Terminal::at_setup(ALL_STATIONS, Block(0), 0),
             };
         }
         Done {
             refusal: 0,
-            terminal: Terminal::at_setup(station, table, flags),
+            terminal: Terminal::at_setup(station, Block(table), flags),
         }
     }
 }

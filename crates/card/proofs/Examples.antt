@@ -5,10 +5,13 @@ use mathlib.Core.Bool.{true, false}
 use mathlib.Core.List.{List, [], _∷_}
 use Prim.Native.Nat.{ℕ}
 use lib.ListN.{length, replicate}
+use Rattle.card.specs.declared.place.Block.{Block}
 use Rattle.card.specs.declared.state.State.{State}
 use Rattle.card.specs.Memory.{
   cardBlocks,
   cardWords,
+  theBlock,
+  theCell,
   wordAddress,
   cellAt,
   withCell,
@@ -23,22 +26,22 @@ use Rattle.card.specs.Sent.{sentRefusal, sentPart}
 
 -- ---- addresses
 
-state-word-of-block-2 : wordAddress 2 58 ≡ 186
+state-word-of-block-2 : wordAddress (theBlock 2) (theCell 58) ≡ 186
 state-word-of-block-2 = refl
 
-table-cell-of-receive-subaddress-3 : wordAddress 1 3 ≡ 67
+table-cell-of-receive-subaddress-3 : wordAddress (theBlock 1) (theCell 3) ≡ 67
 table-cell-of-receive-subaddress-3 = refl
 
-the-last-cell : wordAddress 255 63 ≡ 16383
+the-last-cell : wordAddress (theBlock 255) (theCell 63) ≡ 16383
 the-last-cell = refl
 
 -- ---- table words
 
 -- (j) of document 01
-link-0103-names-block-3 : blockOf 0x0103 ≡ 3
+link-0103-names-block-3 : blockOf 0x0103 ≡ theBlock 3
 link-0103-names-block-3 = refl
 
-bits-above-9-name-no-block : blockOf 0xFC02 ≡ 2
+bits-above-9-name-no-block : blockOf 0xFC02 ≡ theBlock 2
 bits-above-9-name-no-block = refl
 
 queue-is-wanted-by-4002 : wantsQueue 0x4002 ≡ true
@@ -115,24 +118,26 @@ zeros : List ℕ
 zeros = replicate cardWords 0
 
 linked : List ℕ
-linked = withCell (withCell zeros 1 3 0x4002) 2 63 0x4003
+linked =
+    withCell (withCell zeros (theBlock 1) (theCell 3) 0x4002) (theBlock 2) (theCell 63) 0x4003
 
 closed : List ℕ
-closed = withService linked 2 2 0x64 0x3C
+closed = withService linked (theBlock 2) 2 0x64 0x3C
 
-closing-time-low : cellAt closed 2 60 ≡ 0x64
+closing-time-low : cellAt closed (theBlock 2) (theCell 60) ≡ 0x64
 unfolding closed linked zeros cellAt withCell withService
 closing-time-low = refl
 
-the-link-stays : cellAt closed 2 63 ≡ 0x4003
+the-link-stays : cellAt closed (theBlock 2) (theCell 63) ≡ 0x4003
 unfolding closed linked zeros cellAt withCell withService
 the-link-stays = refl
 
-the-table-goes-on : cellAt (withLink closed 2 1 3) 1 3 ≡ 0x4003
+the-table-goes-on :
+    cellAt (withLink closed (theBlock 2) (theBlock 1) (theCell 3)) (theBlock 1) (theCell 3) ≡ 0x4003
 unfolding closed linked zeros cellAt withCell withService withLink
 the-table-goes-on = refl
 
-a-cell-past-63-is-not-there : withCell (1 ∷ 2 ∷ []) 0 64 9 ≡ 1 ∷ 2 ∷ []
+a-cell-past-63-is-not-there : withCell (1 ∷ 2 ∷ []) (theBlock 0) (theCell 64) 9 ≡ 1 ∷ 2 ∷ []
 unfolding withCell
 a-cell-past-63-is-not-there = refl
 
@@ -161,23 +166,28 @@ a-card-of-another-size = refl
 
 -- ---- the part of words to send
 
-words-of-block-2 : sentPart (withCell (withCell zeros 2 0 0x1111) 2 1 0x2222) 2 2
+abbrev block-2 : Block
+block-2 = theBlock 2
+
+words-of-block-2 :
+    sentPart (withCell (withCell zeros block-2 (theCell 0) 0x1111) block-2 (theCell 1) 0x2222)
+    block-2 2
     ≡ 0x1111 ∷ 0x2222 ∷ []
 unfolding zeros withCell sentPart sentRefusal
 words-of-block-2 = refl
 
-block-256-is-refused : sentRefusal cardBlocks cardWords 256 1 ≡ 8
+block-256-is-refused : sentRefusal cardBlocks cardWords (theBlock 256) 1 ≡ 8
 unfolding sentRefusal
 block-256-is-refused = refl
 
-no-count-is-refused : sentRefusal cardBlocks cardWords 2 0 ≡ 8
+no-count-is-refused : sentRefusal cardBlocks cardWords block-2 0 ≡ 8
 unfolding sentRefusal
 no-count-is-refused = refl
 
-a-count-of-33-is-refused : sentRefusal cardBlocks cardWords 2 33 ≡ 8
+a-count-of-33-is-refused : sentRefusal cardBlocks cardWords block-2 33 ≡ 8
 unfolding sentRefusal
 a-count-of-33-is-refused = refl
 
-a-refused-part-is-empty : sentPart zeros 256 1 ≡ []
+a-refused-part-is-empty : sentPart zeros (theBlock 256) 1 ≡ []
 unfolding zeros sentPart sentRefusal
 a-refused-part-is-empty = refl

@@ -11,8 +11,11 @@ use native.Mathlib.Decide.{decLt}
 use native.Mathlib.Omega.{arith}
 use lib.ListN.{length, getD, set, length-set}
 use lib.Seq.{sets, length-sets, getD-set-same, getD-set-other}
+use Rattle.card.specs.declared.place.Block.{Block}
+use Rattle.card.specs.declared.place.Cell.{Cell}
 use Rattle.card.specs.Memory.{
   blockCells,
+  theCell,
   wordAddress,
   cellAt,
   withCell,
@@ -56,16 +59,16 @@ module _ {Written : ℕ → Type 0} where
       }
 
 -- the address is that of one of the block's cells from `first` to `last`
-pub record InCells (block first last address : ℕ) : Type 0 where
-  pub cell : ℕ
-  pub from : first ≤ cell
-  pub to : cell ≤ last
+pub record InCells (block : Block) (first last address : ℕ) : Type 0 where
+  pub cell : Cell
+  pub from : first ≤ cell .0
+  pub to : cell .0 ≤ last
   pub is : address ≡ wordAddress block cell
 
 -- a change that keeps to one block leaves every cell of every other block
-pub other-blocks-kept : {block : ℕ} {change : List ℕ → List ℕ}
+pub other-blocks-kept : {block : Block} {change : List ℕ → List ℕ}
     → Keeps (InCells block 0 63) change
-    → (ram : List ℕ) (other cell : ℕ) → other ≢ block → cell < blockCells
+    → (ram : List ℕ) (other : Block) (cell : Cell) → other ≢ block → cell .0 < blockCells
     → cellAt (change ram) other cell ≡ cellAt ram other cell
 unfolding cellAt
 other-blocks-kept kept ram other cell apart inside =
@@ -75,13 +78,13 @@ other-blocks-kept kept ram other cell apart inside =
 -- ---- the writes
 
 -- a store to a cell keeps to that cell
-pub cell-keeps : (block cell word : ℕ)
+pub cell-keeps : (block : Block) (cell : Cell) (word : ℕ)
     → Keeps (λ address. address ≡ wordAddress block cell) (λ ram. withCell ram block cell word)
 cell-keeps block cell word =
     record {
       same-length = λ ram. length-with-cell ram block cell word;
       same-else = λ ram address else.
-          elim (decLt cell blockCells) [
+          elim (decLt (cell .0) blockCells) [
             | yes inside ↦
                 rw (with-cell-inside ram block cell word inside)
                 (getD-set-other ram (wordAddress block cell) address word 0 else)
@@ -90,40 +93,40 @@ cell-keeps block cell word =
     }
 
 -- the service cells alone
-pub service-keeps : (block state closing ticks : ℕ)
+pub service-keeps : (block : Block) (state closing ticks : ℕ)
     → Keeps (InCells block 58 61) (λ ram. withService ram block state closing ticks)
 unfolding withService
 service-keeps block state closing ticks =
-    keeps-then (kept 58 state (omega arith) (omega arith))
-    (keeps-then (kept 59 (closing / 65536) (omega arith) (omega arith))
-    (keeps-then (kept 60 (closing % 65536) (omega arith) (omega arith))
-    (kept 61 ticks (omega arith) (omega arith))))
+    keeps-then (kept (theCell 58) state (omega arith) (omega arith))
+    (keeps-then (kept (theCell 59) (closing / 65536) (omega arith) (omega arith))
+    (keeps-then (kept (theCell 60) (closing % 65536) (omega arith) (omega arith))
+    (kept (theCell 61) ticks (omega arith) (omega arith))))
   where
-    kept : (cell word : ℕ) → 58 ≤ cell → cell ≤ 61
+    kept : (cell : Cell) (word : ℕ) → 58 ≤ cell .0 → cell .0 ≤ 61
         → Keeps (InCells block 58 61) (λ ram. withCell ram block cell word)
     kept cell word from to =
         keeps-to-more (λ address is. record { cell = cell; from = from; to = to; is = is })
         (cell-keeps block cell word)
 
 -- the chain rule's ground: `cell 63 into the table cell` leaves every cell but the table cell ..
-pub link-keeps : (block table cell : ℕ)
+pub link-keeps : (block table : Block) (cell : Cell)
     → Keeps (λ address. address ≡ wordAddress table cell) (λ ram. withLink ram block table cell)
 unfolding withLink
 link-keeps block table cell =
     record {
-      same-length = λ ram. cell-keeps table cell (cellAt ram block 63) .same-length ram;
+      same-length = λ ram. cell-keeps table cell (cellAt ram block (theCell 63)) .same-length ram;
       same-else = λ ram address else.
-          cell-keeps table cell (cellAt ram block 63) .same-else ram address else;
+          cell-keeps table cell (cellAt ram block (theCell 63)) .same-else ram address else;
     }
 
 -- .. and that one holds the link
-pub link-moves : (ram : List ℕ) (block table cell : ℕ) → cell < blockCells
+pub link-moves : (ram : List ℕ) (block table : Block) (cell : Cell) → cell .0 < blockCells
     → wordAddress table cell < length ram
-    → cellAt (withLink ram block table cell) table cell ≡ cellAt ram block 63
+    → cellAt (withLink ram block table cell) table cell ≡ cellAt ram block (theCell 63)
 unfolding cellAt withLink
 link-moves ram block table cell inside on-card =
-    rw (with-cell-inside ram table cell (getD ram (wordAddress block 63) 0) inside)
-    (getD-set-same ram (wordAddress table cell) (getD ram (wordAddress block 63) 0) 0 on-card)
+    rw (with-cell-inside ram table cell (getD ram (wordAddress block (theCell 63)) 0) inside)
+    (getD-set-same ram (wordAddress table cell) (getD ram (wordAddress block (theCell 63)) 0) 0 on-card)
 
 -- the host's words, from an address on
 pub words-keep : (address : ℕ) (words : List ℕ)

@@ -9,17 +9,25 @@ use native.Mathlib.Omega.{arith}
 use lib.Dec.{leb}
 use lib.ListN.{length, take, drop}
 use borrow.Author.Tests.{eq-eqb, ne-eqb, le-leb, lt-leb, lt-ltb, le-ltb}
-use Rattle.card.specs.Memory.{dataCells, cardBlocks, wordsIn, isBlock, wordAddress}
+use Rattle.card.specs.declared.place.Block.{Block}
+use Rattle.card.specs.Memory.{
+  dataCells,
+  cardBlocks,
+  wordsIn,
+  theCell,
+  isBlock,
+  wordAddress,
+}
 use Rattle.card.specs.Sent.{sentRefusal, sentPart}
 
 -- what is asked of a part that is shown
-pub record Shown (blocks size block count : ℕ) : Type 0 where
+pub record Shown (blocks size : ℕ) (block : Block) (count : ℕ) : Type 0 where
   pub whole-card : size ≡ wordsIn blocks
-  pub on-card : block < blocks
+  pub on-card : block .0 < blocks
   pub some : 1 ≤ count
   pub at-most : count ≤ dataCells
 
-module _ (blocks size block count : ℕ) where
+module _ (blocks size : ℕ) (block : Block) (count : ℕ) where
   -- the number 0 is given for nothing else
   pub shown : sentRefusal blocks size block count ≡ 0 → Shown blocks size block count
   unfolding sentRefusal
@@ -32,10 +40,10 @@ module _ (blocks size block count : ℕ) where
       let number : ℕ = cond (isBlock blocks block && leb 1 count && leb count dataCells) 0 8 in
       let asked : number ≡ 0 =
       rw (eq-eqb size (wordsIn blocks) whole-card) at none in
-      let on-card : block < blocks =
-      elim (decLt block blocks) [
+      let on-card : block .0 < blocks =
+      elim (decLt (block .0) blocks) [
         | yes is ↦ is
-        | no other ↦ omega (arith, rw (le-ltb block blocks (omega arith)) at asked)
+        | no other ↦ omega (arith, rw (le-ltb (block .0) blocks (omega arith)) at asked)
       ] in
       let some : 1 ≤ count =
       elim (decLe 1 count) [
@@ -43,7 +51,7 @@ module _ (blocks size block count : ℕ) where
         | no other ↦
             omega (
               arith,
-              rw (lt-ltb block blocks on-card, lt-leb 1 count (omega arith)) at asked,
+              rw (lt-ltb (block .0) blocks on-card, lt-leb 1 count (omega arith)) at asked,
             )
       ] in
       let at-most : count ≤ dataCells =
@@ -53,7 +61,7 @@ module _ (blocks size block count : ℕ) where
             omega (
               arith,
               rw (
-                lt-ltb block blocks on-card,
+                lt-ltb (block .0) blocks on-card,
                 le-leb 1 count some,
                 lt-leb count dataCells (omega arith),
               ) at asked,
@@ -61,7 +69,7 @@ module _ (blocks size block count : ℕ) where
       ] in
       record { whole-card = whole-card; on-card = on-card; some = some; at-most = at-most }
 
-module _ (ram : List ℕ) (block count number : ℕ)
+module _ (ram : List ℕ) (block : Block) (count number : ℕ)
     (asked : number ≡ sentRefusal cardBlocks (length ram) block count) where
   pub part-refused : (number ≡ 0 → ⊥) → [] ≡ sentPart ram block count
   unfolding sentPart
@@ -69,10 +77,10 @@ module _ (ram : List ℕ) (block count number : ℕ)
       rw (ne-eqb (sentRefusal cardBlocks (length ram) block count) 0 (rw asked at refused))
 
   module _ (start : ℕ) where
-    pub part-ends : number ≡ 0 → start ≡ wordAddress block 0 → start + count ≤ length ram
+    pub part-ends : number ≡ 0 → start ≡ wordAddress block (theCell 0) → start + count ≤ length ram
     part-ends none starts = omega (arith, shown cardBlocks (length ram) block count (sym asked ∙ none))
 
-    pub part-shown : number ≡ 0 → start ≡ wordAddress block 0
+    pub part-shown : number ≡ 0 → start ≡ wordAddress block (theCell 0)
         → take (start + count - start) (drop start ram) ≡ sentPart ram block count
     unfolding sentPart
     part-shown none starts =

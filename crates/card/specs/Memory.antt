@@ -5,6 +5,8 @@ use mathlib.Core.List.{List}
 use Prim.Native.Nat.{ℕ, _+_, _*_, _/_, _%_}
 use lib.Dec.{ltb}
 use lib.ListN.{getD, set}
+use Rattle.card.specs.declared.place.Block.{Block}
+use Rattle.card.specs.declared.place.Cell.{Cell}
 
 -- ---- sizes: the cells of a block and those of them that hold data words, 0 to 31; the blocks of a
 -- card and its words
@@ -25,34 +27,41 @@ wordsIn blocks = blockCells * blocks
 abbrev pub cardWords : ℕ
 cardWords = wordsIn cardBlocks
 
--- whether a number is that of a block, on a card of so many
-abbrev pub isBlock : ℕ → ℕ → Bool
-isBlock blocks block = ltb block blocks
+-- ---- places
 
--- ---- cells
+-- the block and the cell of a number: they are counted apart, and neither is the other
+abbrev pub theBlock : ℕ → Block
+theBlock number = record { 0 = number }
 
--- block and cell are counted apart: a word address is 64 × block + cell
-abbrev pub wordAddress : ℕ → ℕ → ℕ
-wordAddress block cell = blockCells * block + cell
+abbrev pub theCell : ℕ → Cell
+theCell number = record { 0 = number }
+
+-- whether a block is there, on a card of so many
+abbrev pub isBlock : ℕ → Block → Bool
+isBlock blocks block = ltb (block .0) blocks
+
+-- a word address is 64 × block + cell
+abbrev pub wordAddress : Block → Cell → ℕ
+wordAddress block cell = blockCells * block .0 + cell .0
 
 -- the word in a cell of a block, and 0 past the end of memory
-unfoldable pub cellAt : List ℕ → ℕ → ℕ → ℕ
+unfoldable pub cellAt : List ℕ → Block → Cell → ℕ
 cellAt ram block cell = getD ram (wordAddress block cell) 0
 
 -- memory with a word stored in a cell of a block, which has the cells 0 to 63
-unfoldable pub withCell : List ℕ → ℕ → ℕ → ℕ → List ℕ
+unfoldable pub withCell : List ℕ → Block → Cell → ℕ → List ℕ
 withCell ram block cell word =
-    cond (ltb cell blockCells) (set ram (wordAddress block cell) word) ram
+    cond (ltb (cell .0) blockCells) (set ram (wordAddress block cell) word) ram
 
 -- memory with a block's service cells written: 58 state word, 59 and 60 closing time by halves,
 -- 61 ticks
-unfoldable pub withService : List ℕ → ℕ → ℕ → ℕ → ℕ → List ℕ
+unfoldable pub withService : List ℕ → Block → ℕ → ℕ → ℕ → List ℕ
 withService ram block state closing ticks =
-    let with58 : List ℕ = withCell ram block 58 state in
-    let with59 : List ℕ = withCell with58 block 59 (closing / 65536) in
-    let with60 : List ℕ = withCell with59 block 60 (closing % 65536) in
-    withCell with60 block 61 ticks
+    let with58 : List ℕ = withCell ram block (theCell 58) state in
+    let with59 : List ℕ = withCell with58 block (theCell 59) (closing / 65536) in
+    let with60 : List ℕ = withCell with59 block (theCell 60) (closing % 65536) in
+    withCell with60 block (theCell 61) ticks
 
 -- memory with a block's link, cell 63, read into a cell of the table
-unfoldable pub withLink : List ℕ → ℕ → ℕ → ℕ → List ℕ
-withLink ram block table cell = withCell ram table cell (cellAt ram block 63)
+unfoldable pub withLink : List ℕ → Block → Block → Cell → List ℕ
+withLink ram block table cell = withCell ram table cell (cellAt ram block (theCell 63))

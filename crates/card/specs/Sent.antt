@@ -4,19 +4,20 @@ use mathlib.Core.List.{List, []}
 use Prim.Native.Nat.{ℕ}
 use lib.Dec.{eqb, leb}
 use lib.ListN.{length, take, drop}
-use Rattle.card.specs.Memory.{dataCells, cardBlocks, wordsIn, isBlock, wordAddress}
+use Rattle.card.specs.declared.place.Block.{Block}
+use Rattle.card.specs.Memory.{dataCells, cardBlocks, wordsIn, theCell, isBlock, wordAddress}
 
 -- 1 where the RAM is not that of so many blocks; 8 where the block is none of them or the count not
 -- 1 to 32
-unfoldable pub sentRefusal : ℕ → ℕ → ℕ → ℕ → ℕ
+unfoldable pub sentRefusal : ℕ → ℕ → Block → ℕ → ℕ
 sentRefusal blocks size block count =
     cond (eqb size (wordsIn blocks))
     (cond (isBlock blocks block && leb 1 count && leb count dataCells) 0 8)
     1
 
 -- the words from the block's cell 0 on; none where the part is refused
-unfoldable pub sentPart : List ℕ → ℕ → ℕ → List ℕ
+unfoldable pub sentPart : List ℕ → Block → ℕ → List ℕ
 sentPart ram block count =
     cond (eqb (sentRefusal cardBlocks (length ram) block count) 0)
-    (take count (drop (wordAddress block 0) ram))
+    (take count (drop (wordAddress block (theCell 0)) ram))
     []

@@ -2,7 +2,8 @@
 use mathlib.Core.Bool.{Bool}
 use Prim.Native.Nat.{ℕ, _%_}
 use Rattle.bits.specs.Bit.{hasBit}
-use Rattle.card.specs.Memory.{cardBlocks}
+use Rattle.card.specs.declared.place.Block.{Block}
+use Rattle.card.specs.Memory.{cardBlocks, theBlock}
 
 -- bit 15: busy
 abbrev pub isBusy : ℕ → Bool
@@ -13,5 +14,5 @@ abbrev pub wantsQueue : ℕ → Bool
 wantsQueue word = hasBit word 16384
 
 -- bits 9 to 0, taken modulo the card's 256 blocks: the block
-abbrev pub blockOf : ℕ → ℕ
-blockOf word = word % 1024 % cardBlocks
+abbrev pub blockOf : ℕ → Block
+blockOf word = theBlock (word % 1024 % cardBlocks)

@@ -16,14 +16,14 @@ fn least(one: usize, other: usize) -> usize
 }
 
 pub fn read_cell(ram: &[u16], block: Block, cell: Cell) -> u16
-    ensures { λ word. ⌜ word ≡ cellAt (now (ram .entry)) (block .0) (cell .0) ⌝ }
+    ensures { λ word. ⌜ word ≡ cellAt (now (ram .entry)) block cell ⌝ }
 {
     let address = place::word_address(block, cell);
     if address < ram.len() { ram[address] } else { 0 }
 }
 
 pub fn write_cell(ram: &mut [u16], block: Block, cell: Cell, word: u16)
-    ensures { λ _. ⌜ now (ram .exit) ≡ withCell (now (ram .entry)) (block .0) (cell .0) word ⌝ }
+    ensures { λ _. ⌜ now (ram .exit) ≡ withCell (now (ram .entry)) block cell word ⌝ }
 {
     let start = place::word_address(block, Cell(0));
     if ram.len() <= start {
@@ -35,7 +35,7 @@ pub fn write_cell(ram: &mut [u16], block: Block, cell: Cell, word: u16)
 
 pub fn write_service(ram: &mut [u16], block: Block, state: u16, closing: u32, ticks: u16)
     ensures { λ _. ⌜ now (ram .exit)
-        ≡ withService (now (ram .entry)) (block .0) state closing ticks ⌝ }
+        ≡ withService (now (ram .entry)) block state closing ticks ⌝ }
 {
     let start = place::word_address(block, Cell(0));
     if ram.len() <= start {
@@ -47,8 +47,7 @@ pub fn write_service(ram: &mut [u16], block: Block, state: u16, closing: u32, ti
 
 // Reads a block's cell 63 into a cell of the table: the chain goes on.
 pub fn write_link(ram: &mut [u16], block: Block, table: Block, cell: Cell)
-    ensures { λ _. ⌜ now (ram .exit)
-        ≡ withLink (now (ram .entry)) (block .0) (table .0) (cell .0) ⌝ }
+    ensures { λ _. ⌜ now (ram .exit) ≡ withLink (now (ram .entry)) block table cell ⌝ }
 {
     let link = read_cell(ram, block, Cell(63));
     write_cell(ram, table, cell, link);

@@ -18,7 +18,7 @@ pub const CARD_WORDS: usize = 16384;
 
 // Word address = 64 × block + cell.
 pub fn word_address(block: Block, cell: Cell) -> usize
-    ensures { λ address. ⌜ address ≡ wordAddress (block .0) (cell .0) ⌝ }
+    ensures { λ address. ⌜ address ≡ wordAddress block cell ⌝ }
 {
     BLOCK_CELLS * (block.0 as usize) + (cell.0 as usize)
 }

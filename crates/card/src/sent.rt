@@ -10,7 +10,7 @@ use crate::place::Cell;
 use crate::place::DATA_CELLS;
 
 // The number of the part's refusal on a card of so many blocks, and 0 where it is shown.
-pub fn refusal(ram: &[u16], blocks: u16, block: u16, count: u16) -> u8
+pub fn refusal(ram: &[u16], blocks: u16, block: Block, count: u16) -> u8
     ensures { λ number. ⌜ number
         ≡ sentRefusal blocks (length (now (ram .entry))) block count ⌝ }
 {
@@ -18,7 +18,7 @@ pub fn refusal(ram: &[u16], blocks: u16, block: u16, count: u16) -> u8
     if ram.len() != size {
         return 1;
     }
-    if blocks <= block {
+    if blocks <= block.0 {
         return 8;
     }
     if count < 1 {
@@ -31,13 +31,13 @@ pub fn refusal(ram: &[u16], blocks: u16, block: u16, count: u16) -> u8
 }
 
 // The part itself, empty where it is refused.
-pub fn part(ram: &[u16], block: u16, count: u16) -> &[u16]
+pub fn part(ram: &[u16], block: Block, count: u16) -> &[u16]
     ensures { λ words. ⌜ now words ≡ sentPart (now (ram .entry)) block count ⌝ }
 {
     if refusal(ram, CARD_BLOCKS, block, count) != 0 {
         return &ram[0..0];
     }
-    let start = place::word_address(Block(block), Cell(0));
+    let start = place::word_address(block, Cell(0));
     let end = start + (count as usize);
     &ram[start..end]
 }

@@ -19,7 +19,7 @@ pub fn wants_queue(word: u16) -> bool
 
 // The block that the word names, taken modulo 256.
 pub fn block_of(word: u16) -> Block
-    ensures { λ block. ⌜ block ≡ record { 0 = blockOf word } ⌝ }
+    ensures { λ block. ⌜ block ≡ blockOf word ⌝ }
 {
     Block(word % 1024 % CARD_BLOCKS)
 }

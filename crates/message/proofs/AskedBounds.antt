@@ -76,7 +76,7 @@ pub sends-at-most : (command : ℕ) → askedOf command .sends ≤ 32
 sends-at-most command = row-sends (kindOf command) command
 
 row-by-high-cell : (kind : Kind) (command : ℕ) → (askedBy kind command .sends ≡ 0 → ⊥)
-    → 32 ≤ askedBy kind command .cell
+    → 32 ≤ askedBy kind command .cell .0
 unfolding askedBy
 row-by-high-cell Receive command sends = absurd (sends refl)
 row-by-high-cell Transmit command sends = omega arith
@@ -94,12 +94,12 @@ row-by-high-cell Illegal command sends = absurd (sends refl)
 
 -- what sends words of a block goes by a table cell from 32 on
 pub sends-by-high-cell : (command : ℕ) → (askedOf command .sends ≡ 0 → ⊥)
-    → 32 ≤ askedOf command .cell
+    → 32 ≤ askedOf command .cell .0
 sends-by-high-cell command sends = row-by-high-cell (kindOf command) command sends
 
 -- ---- the table cell
 
-row-in-table : (kind : Kind) (command : ℕ) → askedBy kind command .cell < 64
+row-in-table : (kind : Kind) (command : ℕ) → askedBy kind command .cell .0 < 64
 unfolding askedBy
 row-in-table Receive command = omega arith
 row-in-table Transmit command = omega arith
@@ -116,5 +116,5 @@ row-in-table ModeReply command = omega arith
 row-in-table Illegal command = omega arith
 
 -- every command has its chain's word in a cell of the table
-pub cell-in-table : (command : ℕ) → askedOf command .cell < 64
+pub cell-in-table : (command : ℕ) → askedOf command .cell .0 < 64
 cell-in-table command = row-in-table (kindOf command) command

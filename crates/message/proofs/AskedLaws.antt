@@ -18,6 +18,8 @@ use Rattle.bus.specs.declared.kind.Kind.the-variants.{
 }
 use Rattle.bus.specs.Command.{subaddressOf, modeCodeOf, wordsOf}
 use Rattle.bus.specs.Kind.{kindOf}
+use Rattle.card.specs.declared.place.Cell.{Cell}
+use Rattle.card.specs.Memory.{theCell}
 use Rattle.message.specs.declared.asked.Asked.{Asked}
 use Rattle.message.specs.Asked.{
   legal,
@@ -37,7 +39,7 @@ use Rattle.message.specs.Asked.{
 abbrev bare : Chain → Asked
 bare chained = row legal chained noWords serves keepsNone noAct
 
-pub block-taken-away : (asked : Asked) → asked ≡ bare (chain 31)
+pub block-taken-away : (asked : Asked) → asked ≡ bare (chain (theCell 31))
     → record {
       illegal = asked .illegal;
       block = false;
@@ -68,10 +70,10 @@ with asked illegal takes sends receive yields fresh last switch =
       switch = switch;
     }
 
-module _ (asked : Asked) (kind : Kind) (command subaddress words code cell : ℕ) where
+module _ (asked : Asked) (kind : Kind) (command subaddress words code : ℕ) (cell : Cell) where
   pub row-receive : kind ≡ Receive
       → subaddress ≡ subaddressOf command → words ≡ wordsOf command
-      → asked ≡ bare (chain subaddress)
+      → asked ≡ bare (chain (theCell subaddress))
       → with asked (asked .illegal) words (asked .sends) true true (asked .fresh) (asked .last)
       (asked .switch) ≡ askedBy kind command
   unfolding askedBy
@@ -80,7 +82,7 @@ module _ (asked : Asked) (kind : Kind) (command subaddress words code cell : ℕ
 
   pub row-transmit : kind ≡ Transmit
       → subaddress ≡ subaddressOf command → words ≡ wordsOf command
-      → asked ≡ bare (chain (32 + subaddress))
+      → asked ≡ bare (chain (theCell (32 + subaddress)))
       → with asked (asked .illegal) (asked .takes) words (asked .receive) true (asked .fresh)
       (asked .last) (asked .switch) ≡ askedBy kind command
   unfolding askedBy
@@ -105,20 +107,21 @@ module _ (asked : Asked) (kind : Kind) (command subaddress words code cell : ℕ
   unfolding askedBy
   row-switch is is-code same = rw (is, ← is-code, same)
 
-  pub row-send : kind ≡ ModeSend → code ≡ modeCodeOf command → cell ≡ cond (eqb code 16) 32 63
+  pub row-send : kind ≡ ModeSend → code ≡ modeCodeOf command
+      → cell ≡ theCell (cond (eqb code 16) 32 63)
       → asked ≡ bare (chain cell)
       → with asked (asked .illegal) (asked .takes) 1 (asked .receive) (asked .yields)
       (asked .fresh) (asked .last) (asked .switch) ≡ askedBy kind command
   unfolding askedBy
   row-send is is-code is-cell same = rw (is, ← is-code, ← is-cell, same)
 
-  pub row-take : kind ≡ ModeTake → asked ≡ bare (chain 31)
+  pub row-take : kind ≡ ModeTake → asked ≡ bare (chain (theCell 31))
       → with asked (asked .illegal) 1 (asked .sends) (asked .receive) (asked .yields)
       (asked .fresh) (asked .last) (asked .switch) ≡ askedBy kind command
   unfolding askedBy
   row-take is same = rw (is, same)
 
-  pub row-reply : kind ≡ ModeReply → code ≡ modeCodeOf command → asked ≡ bare (chain 31)
+  pub row-reply : kind ≡ ModeReply → code ≡ modeCodeOf command → asked ≡ bare (chain (theCell 31))
       → with asked (asked .illegal) (asked .takes) (asked .sends) (asked .receive)
       (asked .yields) (asked .fresh) (asked .last) code ≡ askedBy kind command
   unfolding askedBy

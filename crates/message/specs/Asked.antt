@@ -17,6 +17,8 @@ use Rattle.bus.specs.declared.kind.Kind.the-variants.{
 }
 use Rattle.bus.specs.Command.{subaddressOf, modeCodeOf, wordsOf}
 use Rattle.bus.specs.Kind.{kindOf}
+use Rattle.card.specs.declared.place.Cell.{Cell}
+use Rattle.card.specs.Memory.{theCell}
 use Rattle.message.specs.declared.asked.Asked.{Asked}
 use Rattle.message.specs.declared.state.OpenMessage.{OpenMessage}
 
@@ -32,16 +34,16 @@ illegal = true
 -- whether the command has a block, and the table cell of its chain
 pub record Chain : Type 0 where
   pub block : Bool
-  pub cell : ℕ
+  pub cell : Cell
 
 -- a block, by the table word of this cell
-abbrev pub chain : ℕ → Chain
+abbrev pub chain : Cell → Chain
 chain cell = record { block = true; cell = cell }
 
 -- no block. An opening reads one table word whatever the command is, so such a command has a cell
 -- too: that of the mode codes, of which it makes nothing
 abbrev pub noBlock : Chain
-noBlock = record { block = false; cell = 31 }
+noBlock = record { block = false; cell = theCell 31 }
 
 -- the words that it takes, those that its reply sends from the block, and whether it is a data
 -- receive, whose first word rule 6 looks at
@@ -109,16 +111,20 @@ row legality chained moves yielding keeps switch =
 -- the others by 31. Internal codes 2, 4 to 7 and 18 and illegal commands have no block
 unfoldable pub askedBy : Kind → ℕ → Asked
 askedBy Receive command =
-    row legal (chain (subaddressOf command)) (takesData (wordsOf command)) yields keepsNone noAct
+    row legal (chain (theCell (subaddressOf command))) (takesData (wordsOf command)) yields
+    keepsNone noAct
 askedBy Transmit command =
-    row legal (chain (32 + subaddressOf command)) (sends (wordsOf command)) yields keepsNone noAct
+    row legal (chain (theCell (32 + subaddressOf command))) (sends (wordsOf command)) yields
+    keepsNone noAct
 askedBy ModeStatus command = row legal noBlock noWords serves keepsStatus noAct
 askedBy ModeLast command = row legal noBlock noWords serves keepsBoth noAct
 askedBy ModeSwitch command = row legal noBlock noWords serves keepsNone (modeCodeOf command)
 askedBy ModeSend command =
-    row legal (chain (cond (eqb (modeCodeOf command) 16) 32 63)) (sends 1) serves keepsNone noAct
-askedBy ModeTake command = row legal (chain 31) (takes 1) serves keepsNone noAct
-askedBy ModeReply command = row legal (chain 31) noWords serves keepsNone (modeCodeOf command)
+    row legal (chain (theCell (cond (eqb (modeCodeOf command) 16) 32 63))) (sends 1) serves
+    keepsNone noAct
+askedBy ModeTake command = row legal (chain (theCell 31)) (takes 1) serves keepsNone noAct
+askedBy ModeReply command =
+    row legal (chain (theCell 31)) noWords serves keepsNone (modeCodeOf command)
 askedBy Illegal command = row illegal noBlock noWords serves keepsNone noAct
 
 -- what a command asks

@@ -3,6 +3,7 @@
 ghost use mathlib.Core.Path.{_≡_};
 ghost use mathlib.Core.Bool.{cond};
 ghost use lib.Dec.{eqb};
+ghost use Rattle.card.specs.Memory.{theCell};
 ghost use Rattle.message.specs.Asked.{
   legal,
   chain,
@@ -20,6 +21,7 @@ use crate::state::OpenMessage;
 use bus::command;
 use bus::kind;
 use bus::kind::Kind;
+use card::place::Cell;
 
 pub struct Asked {
     // words are skipped until silence, and message error is set at once
@@ -27,7 +29,7 @@ pub struct Asked {
     // it has a block, and may join the queue
     pub block: bool,
     // the table cell of its chain
-    pub cell: u16,
+    pub cell: Cell,
     // the words that it takes
     pub takes: u16,
     // the words that its reply sends from the block
@@ -47,7 +49,7 @@ pub struct Asked {
 // ---- the table: a row says what it has beside a block or none
 
 // A block, by the table word of this cell.
-fn with_block(cell: u16) -> Asked
+fn with_block(cell: Cell) -> Asked
     ensures { λ asked. ⌜ asked ≡ row legal (chain cell) noWords serves keepsNone noAct ⌝ }
 {
     Asked {
@@ -68,16 +70,16 @@ fn with_block(cell: u16) -> Asked
 fn without_block() -> Asked
     ensures { λ asked. ⌜ asked ≡ row legal noBlock noWords serves keepsNone noAct ⌝ }
 {
-    let mut asked = with_block(31);
+    let mut asked = with_block(Cell(31));
     asked.block = false;
     asked
 }
 
 // The chain of a mode command that sends: code 16 by cell 32, code 19 by cell 63.
-fn sending_cell(code: u16) -> u16
-    ensures { λ cell. ⌜ cell ≡ cond (eqb code 16) 32 63 ⌝ }
+fn sending_cell(code: u16) -> Cell
+    ensures { λ cell. ⌜ cell ≡ theCell (cond (eqb code 16) 32 63) ⌝ }
 {
-    if code == 16 { 32 } else { 63 }
+    if code == 16 { Cell(32) } else { Cell(63) }
 }
 
 fn asked_by(kind: Kind, command: u16) -> Asked
@@ -88,14 +90,15 @@ fn asked_by(kind: Kind, command: u16) -> Asked
     let code = command::mode_code(command);
     match kind {
         Kind::Receive => {
-            let mut asked = with_block(subaddress);
+            let mut asked = with_block(Cell(subaddress));
             asked.takes = words;
             asked.receive = true;
             asked.yields = true;
             asked
         }
         Kind::Transmit => {
-            let mut asked = with_block(32 + subaddress);
+            let number = 32 + subaddress;
+            let mut asked = with_block(Cell(number));
             asked.sends = words;
             asked.yields = true;
             asked
@@ -122,12 +125,12 @@ fn asked_by(kind: Kind, command: u16) -> Asked
             asked
         }
         Kind::ModeTake => {
-            let mut asked = with_block(31);
+            let mut asked = with_block(Cell(31));
             asked.takes = 1;
             asked
         }
         Kind::ModeReply => {
-            let mut asked = with_block(31);
+            let mut asked = with_block(Cell(31));
             asked.switch = code;
             asked
         }

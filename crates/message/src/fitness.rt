@@ -46,8 +46,8 @@ fn is_fit_open(blocks: u16, station: u16, message: OpenMessage) -> bool
     let fit_second = is_fit_second(second, station, message.command, asked.receive);
     let fit_stage = is_fit_stage(stage, asked.illegal, second, message.taken);
     ((address == station) | broadcast)
-        & (message.block < blocks)
-        & (message.home < blocks)
+        & (message.block.0 < blocks)
+        & (message.home.0 < blocks)
         & (message.taken <= asked.takes)
         & fit_second
         & fit_stage

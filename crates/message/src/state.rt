@@ -1,6 +1,7 @@
 // An open message.
 ghost use mathlib.Core.Path.{_≡_};
 ghost use Rattle.message.specs.Message.{further, movedMessage, hasSecond, secondOf};
+use card::place::Block;
 
 // How far an open message has come.
 pub enum Stage {
@@ -25,9 +26,9 @@ pub struct OpenMessage {
     pub command: u16,
     // line B
     pub line: bool,
-    pub block: u16,
+    pub block: Block,
     // the table block at the opening
-    pub home: u16,
+    pub home: Block,
     // the host has set the table block since
     pub moved: bool,
     pub busy: bool,
@@ -51,11 +52,13 @@ impl OpenMessage {
     pub fn further(self, stage: Stage, second: Second, taken: u16) -> OpenMessage
         ensures { λ message. ⌜ message ≡ further stage second taken self ⌝ }
     {
+        let block = self.block;
+        let home = self.home;
         OpenMessage {
             command: self.command,
             line: self.line,
-            block: self.block,
-            home: self.home,
+            block: block,
+            home: home,
             moved: self.moved,
             busy: self.busy,
             queued: self.queued,

@@ -4,6 +4,7 @@ use mathlib.Core.Path.{_≡_}
 use mathlib.Core.Bool.{Bool, _&&_}
 use Prim.Native.Nat.{ℕ}
 use Rattle.bus.specs.Limits.{isStation, areFlags}
+use Rattle.card.specs.declared.place.Block.{Block}
 use Rattle.card.specs.Memory.{isBlock}
 use Rattle.message.specs.declared.state.Message.{Message}
 use Rattle.message.specs.Message.{movedMessage}
@@ -12,7 +13,7 @@ use Rattle.terminal.specs.declared.state.Core.{Core}
 use Rattle.terminal.specs.State.{withTable, withMessage}
 use Rattle.terminal.specs.Fitness.{fitCore}
 
-pub table-moved : (old core : Core) (message : Message) (table : ℕ)
+pub table-moved : (old core : Core) (message : Message) (table : Block)
     → message ≡ movedMessage (old .message) → core ≡ withMessage message old
     → withTable table core ≡ withTable table (withMessage (movedMessage (old .message)) old)
 table-moved old core message table is-message is-core = rw (is-core, is-message)

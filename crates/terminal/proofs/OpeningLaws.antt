@@ -8,7 +8,7 @@ use Rattle.bits.specs.Bit.{hasBit}
 use Rattle.bus.specs.declared.status.Status.{Status}
 use Rattle.bus.specs.Status.{statusWord, caughtStatus}
 use Rattle.card.specs.declared.place.Block.{Block}
-use Rattle.card.specs.Memory.{cellAt}
+use Rattle.card.specs.Memory.{theBlock, cellAt}
 use Rattle.card.specs.TableWord.{isBusy, blockOf, wantsQueue}
 use Rattle.message.specs.declared.asked.Asked.{Asked}
 use Rattle.message.specs.declared.state.Stage.{Stage}
@@ -28,12 +28,6 @@ use Rattle.terminal.specs.Opening.{
   openedAt,
 }
 
--- ---- the block
-
-module _ (named : Block) (entry : ℕ) (has : Bool) (is : named ≡ record { 0 = blockOf entry }) where
-  pub block-named : has ≡ true → named .0 ≡ cond has (blockOf entry) 0
-  block-named yes-block = rw (yes-block, is)
-
 -- ---- busy
 
 pub busy-is : (asked : Asked) (flags entry : ℕ) (marked : Bool) → marked ≡ isBusy entry
@@ -43,8 +37,8 @@ busy-is asked flags entry marked is = rw is
 -- ---- the message
 
 module _ (asked : Asked) (entry : ℕ) (word : Word) (core : Core) where
-  pub message-is : (block : ℕ) (busy wanted : Bool) (stage : Stage)
-      → block ≡ cond (asked .block) (blockOf entry) 0
+  pub message-is : (block : Block) (busy wanted : Bool) (stage : Stage)
+      → block ≡ cond (asked .block) (blockOf entry) (theBlock 0)
       → busy ≡ busyAt asked (core .flags) entry
       → wanted ≡ wantsQueue entry
       → stage ≡ cond (asked .illegal) Skipping Data

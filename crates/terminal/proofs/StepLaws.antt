@@ -5,7 +5,7 @@ use mathlib.Core.Bool.{Bool, true, false, cond, not}
 use mathlib.Core.List.{List}
 use Prim.Native.Nat.{ℕ}
 use borrow.Author.Tests.{not-true, not-false}
-use Rattle.card.specs.Memory.{withCell}
+use Rattle.card.specs.Memory.{theCell, withCell}
 use Rattle.queue.specs.declared.Ring.{Ring}
 use Rattle.queue.specs.Queue.{queue}
 use Rattle.message.specs.declared.asked.Asked.{Asked}
@@ -92,7 +92,7 @@ module _ (act : WordAct) (deed : WordDeed) (message : OpenMessage) (word : Word)
     word-went-on stage second taken held goes is-held = done-by _ (rw (goes, is-held))
 
     pub word-stored : (taken : ℕ) (stored : List ℕ) (held : Held) → deed ≡ word-deeds.Store taken
-        → stored ≡ withCell ram (message .block) (message .taken) (word .value)
+        → stored ≡ withCell ram (message .block) (theCell (message .taken)) (word .value)
         → held ≡ goingOn (further Data (message .second) taken message) core ring
         → card (held .core) (queue places (held .ring)) stored ≡ doneBy act word before
     unfolding wordDeedDone

@@ -5,6 +5,8 @@ use Prim.Native.Nat.{ℕ}
 use lib.Dec.{eqb}
 use Rattle.bus.specs.Command.{isBroadcast}
 use Rattle.bus.specs.Status.{withError}
+use Rattle.card.specs.declared.place.Block.{Block}
+use Rattle.card.specs.declared.place.Cell.{Cell}
 use Rattle.card.specs.Memory.{withService, withLink}
 use Rattle.card.specs.StateWord.{stateWord}
 use Rattle.card.specs.Time.{ticksOf}
@@ -42,7 +44,7 @@ stateOf code words message =
 -- ---- closing
 
 -- cell 63 into the opening's table cell, unless the host has set the table block since
-abbrev pub linked : Bool → ℕ → ℕ → ℕ → List ℕ → List ℕ
+abbrev pub linked : Bool → Block → Block → Cell → List ℕ → List ℕ
 linked moved block home cell ram = cond moved ram (withLink ram block home cell)
 
 -- 58 to 61, then the link
@@ -56,7 +58,7 @@ closedRam asked state time message ram =
 -- then, if wanted, the block number joins the queue
 unfoldable pub closedQueue : Asked → OpenMessage → Queue → Queue
 closedQueue asked message queue =
-    cond (asked .block && message .queued) (withJoined (message .block) queue) queue
+    cond (asked .block && message .queued) (withJoined (message .block .0) queue) queue
 
 unfoldable pub closing : Asked → ℕ → ℕ → OpenMessage → Card → Card
 closing asked state time message old =

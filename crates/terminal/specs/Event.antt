@@ -2,6 +2,7 @@
 use mathlib.Core.Bool.{Bool, cond}
 use mathlib.Core.List.{List}
 use Prim.Native.Nat.{ℕ}
+use Rattle.card.specs.declared.place.Block.{Block}
 use Rattle.message.specs.declared.asked.Asked.{Asked}
 use Rattle.message.specs.declared.state.OpenMessage.{OpenMessage}
 use Rattle.message.specs.declared.state.Message.the-variants.{Open}
@@ -20,7 +21,7 @@ pub data Event : Type 0 where
   silence : Bool → ℕ → Event
   queueRead : Event
   hostWrite : ℕ → List ℕ → Event
-  tableMove : ℕ → Event
+  tableMove : Block → Event
   flagsWrite : ℕ → Event
 
 -- what comes back: a reply on the bus, or the word of a queue read

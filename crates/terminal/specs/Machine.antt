@@ -2,6 +2,7 @@
 use mathlib.Core.List.{List, [], _∷_}
 use Prim.Native.Nat.{ℕ}
 use lib.Seq.{sets}
+use Rattle.card.specs.declared.place.Block.{Block}
 use Rattle.queue.specs.Queue.{oldestWord, withoutOldest, queue}
 use Rattle.terminal.specs.State.{
   Card,
@@ -46,7 +47,7 @@ hostWriteStep address words old =
     quietly (withRam (sets (old .ram) address words) old)
 
 -- the host sets the table block, which an open message remembers
-unfoldable pub tableMoveStep : ℕ → Card → Outcome
+unfoldable pub tableMoveStep : Block → Card → Outcome
 tableMoveStep table old =
     quietly
     (withCore (withTable table (withMessage (movedMessage (old .core .message)) (old .core))) old)

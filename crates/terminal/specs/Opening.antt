@@ -4,7 +4,7 @@ use mathlib.Core.List.{List}
 use Prim.Native.Nat.{ℕ}
 use Rattle.bits.specs.Bit.{hasBit}
 use Rattle.bus.specs.Status.{statusWord, caughtStatus}
-use Rattle.card.specs.Memory.{cellAt}
+use Rattle.card.specs.Memory.{theBlock, cellAt}
 use Rattle.card.specs.TableWord.{isBusy, wantsQueue, blockOf}
 use Rattle.message.specs.declared.asked.Asked.{Asked}
 use Rattle.message.specs.declared.state.Stage.the-variants.{Data, Skipping}
@@ -27,7 +27,7 @@ openedMessage asked entry word core =
     record {
       command = word .value;
       line = word .line;
-      block = cond (asked .block) (blockOf entry) 0;
+      block = cond (asked .block) (blockOf entry) (theBlock 0);
       home = core .table;
       moved = false;
       busy = busyAt asked (core .flags) entry;

@@ -2,6 +2,7 @@
 use mathlib.Core.Bool.{Bool, false}
 use mathlib.Core.List.{List}
 use Prim.Native.Nat.{ℕ, _*_, _%_}
+use Rattle.card.specs.declared.place.Block.{Block}
 use Rattle.queue.specs.declared.Queue.{Queue}
 use Rattle.queue.specs.declared.Ring.{Ring}
 use Rattle.queue.specs.Queue.{queue}
@@ -40,7 +41,7 @@ withRam ram old = card (old .core) (old .queue) ram
 
 -- ---- the core with one field set anew
 
-unfoldable pub withTable : ℕ → Core → Core
+unfoldable pub withTable : Block → Core → Core
 withTable table core =
     record {
       station = core .station;
@@ -121,7 +122,7 @@ withMessage message core =
 -- ---- setup: remembered status = station × 2,048 (a station has five bits); all else zero, nothing
 -- open
 
-unfoldable pub coreAtSetup : ℕ → ℕ → ℕ → Core
+unfoldable pub coreAtSetup : ℕ → Block → ℕ → Core
 coreAtSetup station table flags =
     record {
       station = station;

@@ -1,6 +1,6 @@
 -- A word: what rules 1 to 8 decide is done. Definitions only. Assumes nothing.
 use mathlib.Core.Bool.{cond}
-use Rattle.card.specs.Memory.{withCell}
+use Rattle.card.specs.Memory.{theCell, withCell}
 use Rattle.message.specs.declared.asked.Asked.{Asked}
 use Rattle.message.specs.declared.judge.WordAct.{WordAct}
 use Rattle.message.specs.declared.judge.WordAct.the-variants.{
@@ -32,7 +32,7 @@ wordDone Ignore asked message word old = quietly old
 wordDone (Store taken) asked message word old =
     quietly
     (withCore (withMessage (Open (further Data (message .second) taken message)) (old .core))
-    (withRam (withCell (old .ram) (message .block) (message .taken) (word .value)) old))
+    (withRam (withCell (old .ram) (message .block) (theCell (message .taken)) (word .value)) old))
 wordDone (Check taken) asked message word old =
     goesOn (further Data (message .second) taken message) old
 wordDone (TakeSecond value) asked message word old =

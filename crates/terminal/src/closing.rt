@@ -25,8 +25,6 @@ use crate::state::Shut;
 use bus::command;
 use bus::status;
 use card::memory;
-use card::place::Block;
-use card::place::Cell;
 use card::state::State;
 use card::time;
 use message::asked::Asked;
@@ -69,20 +67,18 @@ fn close_ram(ram: &mut [u16], asked: Asked, state: u16, time: u32, message: Open
 {
     let has = asked.block;
     let moved = message.moved;
+    let block = message.block;
+    let home = message.home;
+    let cell = asked.cell;
     if !has {
         return;
     }
     let ticks = time::ticks(message.opened, time);
-    memory::write_service(ram, Block(message.block), state, time, ticks);
+    memory::write_service(ram, block, state, time, ticks);
     if moved {
         return;
     }
-    memory::write_link(
-        ram,
-        Block(message.block),
-        Block(message.home),
-        Cell(asked.cell),
-    );
+    memory::write_link(ram, block, home, cell);
 }
 
 // If wanted, the block number joins the queue.
@@ -92,7 +88,7 @@ fn close_queue(ring: Ring, places: &mut [u16; 256], asked: Asked, message: OpenM
 {
     let joins = asked.block & message.queued;
     if joins {
-        return ring.join(places, message.block);
+        return ring.join(places, message.block.0);
     }
     ring
 }
@@ -127,9 +123,10 @@ impl Core {
         if sends == 0 {
             return Reply::Status(self.status);
         }
+        let block = message.block;
         Reply::Words {
             status: self.status,
-            block: message.block,
+            block: block,
             count: asked.sends,
         }
     }

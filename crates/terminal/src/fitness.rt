@@ -14,6 +14,6 @@ impl Core {
     {
         let message = self.message;
         let fit = fitness::is_fit_message(blocks, message, self.station);
-        (self.station <= LAST_STATION) & (self.table < blocks) & (self.flags <= ALL_FLAGS) & fit
+        (self.station <= LAST_STATION) & (self.table.0 < blocks) & (self.flags <= ALL_FLAGS) & fit
     }
 }

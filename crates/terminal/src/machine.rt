@@ -15,7 +15,6 @@ use crate::state::Held;
 use crate::state::Reply;
 use bus::word::Word;
 use card::memory;
-use card::place::Block;
 use card::place::Cell;
 use message::asked::Asked;
 use message::judge;
@@ -138,8 +137,9 @@ impl Core {
                 self.go_on(ring, message, stage, second, taken)
             }
             WordDeed::Store(taken) => {
-                memory::write_cell(ram, Block(message.block), Cell(message.taken), word.value);
+                let block = message.block;
                 let second = message.second;
+                memory::write_cell(ram, block, Cell(message.taken), word.value);
                 self.go_on(ring, message, Stage::Data, second, taken)
             }
             WordDeed::Fault(code) => {

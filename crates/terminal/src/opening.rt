@@ -2,6 +2,7 @@
 ghost use mathlib.Core.Path.{_≡_};
 ghost use mathlib.Core.Bool.{cond};
 ghost use Rattle.message.specs.declared.state.Stage.the-variants.{Data, Skipping};
+ghost use Rattle.card.specs.Memory.{theBlock};
 ghost use Rattle.card.specs.TableWord.{blockOf};
 ghost use Rattle.terminal.specs.Opening.{
   busyAt,
@@ -15,7 +16,6 @@ use bus::status::Status;
 use bus::word::Word;
 use card::memory;
 use card::place::Block;
-use card::place::Cell;
 use card::table;
 use message::asked;
 use message::asked::Asked;
@@ -33,12 +33,12 @@ fn busy_at(asked: Asked, flags: u16, entry: u16) -> bool
 }
 
 // A message without a block has number 0 in its place.
-fn block_at(asked: Asked, entry: u16) -> u16
-    ensures { λ block. ⌜ block ≡ cond (asked .block) (blockOf entry) 0 ⌝ }
+fn block_at(asked: Asked, entry: u16) -> Block
+    ensures { λ block. ⌜ block ≡ cond (asked .block) (blockOf entry) (theBlock 0) ⌝ }
 {
     let named = table::block_of(entry);
     let has = asked.block;
-    if has { named.0 } else { 0 }
+    if has { named } else { Block(0) }
 }
 
 // Illegal commands are skipped.
@@ -57,6 +57,7 @@ fn opened_message(asked: Asked, entry: u16, word: Word, core: Core) -> OpenMessa
     ensures { λ message. ⌜ message ≡ openedMessage asked entry word core ⌝ }
 {
     let block = block_at(asked, entry);
+    let home = core.table;
     let busy = busy_at(asked, core.flags, entry);
     let wanted = table::wants_queue(entry);
     let stage = stage_at(asked.illegal);
@@ -65,7 +66,7 @@ fn opened_message(asked: Asked, entry: u16, word: Word, core: Core) -> OpenMessa
         command: word.value,
         line: word.line,
         block: block,
-        home: core.table,
+        home: home,
         moved: false,
         busy: busy,
         queued: asked.block & wanted,
@@ -110,11 +111,12 @@ fn opened_core(asked: Asked, entry: u16, word: Word, core: Core) -> Core
     let message = opened_message(asked, entry, word, core);
     let status = opened_status(asked, entry, word, core);
     let last = opened_last(asked, core.last, word.value);
+    let table = core.table;
     let shut = core.shut;
     let held = Message::Open(message);
     Core {
         station: core.station,
-        table: core.table,
+        table: table,
         flags: core.flags,
         status: status,
         last: last,
@@ -130,7 +132,9 @@ impl Core {
         ensures { λ opened. ⌜ opened ≡ openedAt word self (now (ram .entry)) ⌝ }
     {
         let asked = asked::asked_of(word.value);
-        let entry = memory::read_cell(ram, Block(self.table), Cell(asked.cell));
+        let table = self.table;
+        let cell = asked.cell;
+        let entry = memory::read_cell(ram, table, cell);
         opened_core(asked, entry, word, self)
     }
 }

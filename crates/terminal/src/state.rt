@@ -8,6 +8,7 @@ ghost use Rattle.terminal.specs.State.{
   withMessage,
   coreAtSetup,
 };
+use card::place::Block;
 use message::state;
 use message::state::Message;
 use queue::Ring;
@@ -21,7 +22,7 @@ pub struct Shut {
 // All but the queue: small enough to go by value through every word of a run.
 pub struct Core {
     pub station: u16,
-    pub table: u16,
+    pub table: Block,
     pub flags: u16,
     // the remembered status
     pub status: u16,
@@ -43,8 +44,15 @@ pub struct Held {
 pub enum Reply {
     Silent,
     Status(u16),
-    Words { status: u16, block: u16, count: u16 },
-    Last { status: u16, command: u16 },
+    Words {
+        status: u16,
+        block: Block,
+        count: u16,
+    },
+    Last {
+        status: u16,
+        command: u16,
+    },
 }
 
 // What an event brings: a reply on the bus, or the word of a queue read.
@@ -70,10 +78,11 @@ impl Core {
     pub fn with_message(self, message: Message) -> Core
         ensures { λ core. ⌜ core ≡ withMessage message self ⌝ }
     {
+        let table = self.table;
         let shut = self.shut;
         Core {
             station: self.station,
-            table: self.table,
+            table: table,
             flags: self.flags,
             status: self.status,
             last: self.last,
@@ -83,7 +92,7 @@ impl Core {
         }
     }
 
-    pub fn move_table(self, table: u16) -> Core
+    pub fn move_table(self, table: Block) -> Core
         ensures { λ core. ⌜ core
             ≡ withTable table (withMessage (movedMessage (self .message)) self) ⌝ }
     {
@@ -102,7 +111,7 @@ impl Core {
     }
 
     // Remembered status = station × 2,048; all else zero, nothing open. A station has five bits.
-    pub fn at_setup(station: u16, table: u16, flags: u16) -> Core
+    pub fn at_setup(station: u16, table: Block, flags: u16) -> Core
         ensures { λ core. ⌜ core ≡ coreAtSetup station table flags ⌝ }
     {
         Core {

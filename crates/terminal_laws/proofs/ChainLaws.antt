@@ -11,7 +11,9 @@ use mathlib.Core.List.{List, [], _∷_, _++_}
 use Prim.Native.Nat.{ℕ, _≤_, _<_}
 use native.Mathlib.Omega.{arith}
 use lib.ListN.{length, getD}
-use Rattle.card.specs.Memory.{blockCells, wordAddress, cellAt, withService}
+use Rattle.card.specs.declared.place.Block.{Block}
+use Rattle.card.specs.declared.place.Cell.{Cell}
+use Rattle.card.specs.Memory.{blockCells, theCell, wordAddress, cellAt, withService}
 use Rattle.card.specs.Time.{ticksOf}
 use Rattle.card.proofs.Frame.{service-keeps, link-moves}
 use Rattle.message.specs.declared.asked.Asked.{Asked}
@@ -96,10 +98,10 @@ module _ (old : Card) (message : OpenMessage) (is-open : old .core .message ≡ 
 module _ (asked : Asked) (state time : ℕ) (message : OpenMessage) (ram : List ℕ)
     (has : asked .block ≡ true) where
   -- cells 58 to 61, then cell 63 into the table cell: the link is the one that stood there before
-  link-after-closing : message .moved ≡ false → asked .cell < blockCells
+  link-after-closing : message .moved ≡ false → asked .cell .0 < blockCells
       → wordAddress (message .home) (asked .cell) < length ram
       → cellAt (closedRam asked state time message ram) (message .home) (asked .cell)
-      ≡ cellAt ram (message .block) 63
+      ≡ cellAt ram (message .block) (theCell 63)
   unfolding closedRam cellAt
   link-after-closing stays inside in-memory =
       let ticks = ticksOf (message .opened) time in
@@ -108,11 +110,11 @@ module _ (asked : Asked) (state time : ℕ) (message : OpenMessage) (ram : List 
       rw (has, stays)
       (link-moves served (message .block) (message .home) (asked .cell) inside
       (omega (arith, keeps .same-length ram))
-      ∙ keeps .same-else ram (wordAddress (message .block) 63) (λ written. omega arith))
+      ∙ keeps .same-else ram (wordAddress (message .block) (theCell 63)) (λ written. omega arith))
 
   -- cells 58 to 61 alone
   entry-after-a-move : message .moved ≡ true
-      → ((cell : ℕ) → 58 ≤ cell → cell ≤ 61
+      → ((cell : Cell) → 58 ≤ cell .0 → cell .0 ≤ 61
       → wordAddress (message .home) (asked .cell) ≢ wordAddress (message .block) cell)
       → cellAt (closedRam asked state time message ram) (message .home) (asked .cell)
       ≡ cellAt ram (message .home) (asked .cell)
@@ -140,7 +142,7 @@ chain-moves-on old message event asked =
 -- none of the cells 58 to 61 of the message's block
 pub moved-chain-stays : (old : Card) (message : OpenMessage) (event : Event)
     → OpenWithBlock old message → Closes old message event → message .moved ≡ true
-    → ((cell : ℕ) → 58 ≤ cell → cell ≤ 61
+    → ((cell : Cell) → 58 ≤ cell .0 → cell .0 ≤ 61
     → tableAddress message ≢ wordAddress (message .block) cell)
     → tableWordOf message (step event old .card) ≡ tableWordOf message old
 moved-chain-stays old message event with-block closes moved apart =
@@ -161,7 +163,7 @@ faulted-table asked code time message old = refl
 
 module _ (heard : Word) (has : askedOf (heard .value) .block ≡ true) where
   -- it takes the block that the table cell names, and leaves memory as it is
-  abbrev Takes : Card → ℕ → Type 0
+  abbrev Takes : Card → Block → Type 0
   Takes new table =
       OpenIn (cellAt (new .ram) table (askedOf (heard .value) .cell)) (new .core .message)
 

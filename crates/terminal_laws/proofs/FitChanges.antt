@@ -76,32 +76,33 @@ fit-opening word old to-us fit =
 
 -- the block joins the queue, or does not
 fit-closed-queue : (joins : Bool) (block : ℕ) (queue : Queue) → block < cardBlocks
-    → fitQueue cardBlocks queue ≡ true → fitQueue cardBlocks (cond joins (withJoined block queue) queue) ≡ true
+    → fitQueue cardBlocks queue ≡ true
+    → fitQueue cardBlocks (cond joins (withJoined block queue) queue) ≡ true
 fit-closed-queue true block queue on-card fit = join-keeps-fit cardBlocks block queue on-card fit
 fit-closed-queue false block queue on-card fit = fit
 
 -- nothing is open any more
 fit-closing : (asked : Asked) (state time : ℕ) (message : OpenMessage) (old : Card)
-    → message .block < cardBlocks → FitCard old → FitCard (closing asked state time message old)
+    → message .block .0 < cardBlocks → FitCard old → FitCard (closing asked state time message old)
 unfolding closing closedQueue
 fit-closing asked state time message old on-card fit =
     record {
       core = fit-with-message Idle (old .core) refl (fit .core);
       queue =
-          fit-closed-queue (asked .block && message .queued) (message .block) (old .queue) on-card
+          fit-closed-queue (asked .block && message .queued) (message .block .0) (old .queue) on-card
           (fit .queue);
     }
 
 -- refusal 4 asks nothing of the remembered status ..
 pub fit-faulted : (asked : Asked) (code time : ℕ) (message : OpenMessage) (old : Card)
-    → message .block < cardBlocks → FitCard old → FitCard (faulted asked code time message old)
+    → message .block .0 < cardBlocks → FitCard old → FitCard (faulted asked code time message old)
 unfolding faulted withStatus fitCore
 fit-faulted asked code time message old on-card fit =
     fit-closing asked _ time message _ on-card (record { core = fit .core; queue = fit .queue })
 
 -- .. nor of shut lines and inhibit
 pub fit-ended : (asked : Asked) (time : ℕ) (message : OpenMessage) (old : Card)
-    → message .block < cardBlocks → FitCard old → FitCard (ended asked time message old)
+    → message .block .0 < cardBlocks → FitCard old → FitCard (ended asked time message old)
 unfolding ended withSwitches fitCore
 fit-ended asked time message old on-card fit =
     fit-closing asked _ time message _ on-card (record { core = fit .core; queue = fit .queue })

@@ -39,7 +39,7 @@ FitEvent (word heard) = Unit {0}
 FitEvent (silence line time) = Unit {0}
 FitEvent queueRead = Unit {0}
 FitEvent (hostWrite address words) = Unit {0}
-FitEvent (tableMove table) = table < cardBlocks
+FitEvent (tableMove table) = table .0 < cardBlocks
 FitEvent (flagsWrite flags) = flags ≤ allFlags
 
 -- no event takes a fit state to an unfit one

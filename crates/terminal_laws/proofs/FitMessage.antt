@@ -8,7 +8,7 @@ use native.Mathlib.Omega.{arith}
 use lib.Dec.{eqb, leb}
 use borrow.Author.Tests.{leb-false}
 use Rattle.rules.proofs.Cases.{both}
-use Rattle.card.specs.Memory.{cardBlocks}
+use Rattle.card.specs.Memory.{cardBlocks, theBlock}
 use Rattle.card.specs.TableWord.{blockOf}
 use Rattle.message.specs.declared.state.Stage.the-variants.{
   Data,
@@ -32,7 +32,7 @@ use Rattle.terminal_laws.proofs.FitParts.{addressed, isLegal, InStage, 
 -- ---- the message that a word opens
 
 -- a table word names one of 256 blocks, and without a block the number is 0
-fit-block : (has : Bool) (entry : ℕ) → cond has (blockOf entry) 0 < cardBlocks
+fit-block : (has : Bool) (entry : ℕ) → cond has (blockOf entry) (theBlock 0) .0 < cardBlocks
 fit-block true entry = omega arith
 fit-block false entry = omega arith
 
@@ -43,7 +43,7 @@ fit-first-stage false = refl
 
 -- whatever the table word is
 pub opened-fits : (entry : ℕ) (word : Word) (core : Core)
-    → addressed (core .station) (word .value) ≡ true → core .table < cardBlocks
+    → addressed (core .station) (word .value) ≡ true → core .table .0 < cardBlocks
     → FitOpen (core .station)
     (openedMessage (askedOf (word .value)) entry word core)
 unfolding openedMessage

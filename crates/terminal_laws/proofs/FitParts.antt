@@ -37,8 +37,8 @@ InStage stage message =
 -- what is asked of an open message
 pub record FitOpen (station : ℕ) (message : OpenMessage) : Type 0 where
   pub address : addressed station (message .command) ≡ true
-  pub block : message .block < cardBlocks
-  pub home : message .home < cardBlocks
+  pub block : message .block .0 < cardBlocks
+  pub home : message .home .0 < cardBlocks
   pub taken : message .taken ≤ asks message .takes
   pub second : fitSecond (message .second) station (message .command)
       (asks message .receive) ≡ true
@@ -64,8 +64,8 @@ fit-open-parts station message fit =
     let to-block = first-of-both (address && block) home to-home in
     record {
       address = first-of-both address block to-block;
-      block = ltb-true (message .block) cardBlocks (second-of-both address block to-block);
-      home = ltb-true (message .home) cardBlocks (second-of-both (address && block) home to-home);
+      block = ltb-true (message .block .0) cardBlocks (second-of-both address block to-block);
+      home = ltb-true (message .home .0) cardBlocks (second-of-both (address && block) home to-home);
       taken =
           leb-true (message .taken) (asked .takes)
           (second-of-both (address && block && home) taken to-taken);
@@ -80,8 +80,8 @@ unfolding fitOpen
 fit-open-whole {station} {message} parts =
     rw (
       parts .address,
-      lt-ltb (message .block) cardBlocks (parts .block),
-      lt-ltb (message .home) cardBlocks (parts .home),
+      lt-ltb (message .block .0) cardBlocks (parts .block),
+      lt-ltb (message .home .0) cardBlocks (parts .home),
       le-leb (message .taken) (asks message .takes) (parts .taken),
       parts .second,
     ) (parts .stage)
@@ -91,7 +91,7 @@ fit-open-whole {station} {message} parts =
 -- what is asked of the core
 pub record FitCore (core : Core) : Type 0 where
   pub station : core .station ≤ lastStation
-  pub table : core .table < cardBlocks
+  pub table : core .table .0 < cardBlocks
   pub flags : core .flags ≤ allFlags
   pub message : fitMessage cardBlocks (core .message) (core .station) ≡ true
 
@@ -107,7 +107,7 @@ fit-core-parts core fit =
     let to-table = first-of-both (station && table) flags to-flags in
     record {
       station = leb-true (core .station) lastStation (first-of-both station table to-table);
-      table = ltb-true (core .table) cardBlocks (second-of-both station table to-table);
+      table = ltb-true (core .table .0) cardBlocks (second-of-both station table to-table);
       flags = leb-true (core .flags) allFlags (second-of-both (station && table) flags to-flags);
       message = second-of-both (station && table && flags) message fit;
     }
@@ -118,7 +118,7 @@ unfolding fitCore
 fit-core-whole {core} parts =
     rw (
       le-leb (core .station) lastStation (parts .station),
-      lt-ltb (core .table) cardBlocks (parts .table),
+      lt-ltb (core .table .0) cardBlocks (parts .table),
       le-leb (core .flags) allFlags (parts .flags),
     ) (parts .message)
 
@@ -131,7 +131,7 @@ open-parts core message fit is =
 -- its block and its table block are blocks of the card
 pub open-block-fits : (core : Core) (message : OpenMessage)
     → fitCore cardBlocks core ≡ true → core .message ≡ Open message
-    → (message .block < cardBlocks) × (message .home < cardBlocks)
+    → (message .block .0 < cardBlocks) × (message .home .0 < cardBlocks)
 open-block-fits core message fit is =
     let parts = open-parts core message fit is in
     (parts .block, parts .home)

@@ -6,7 +6,10 @@ use mathlib.Core.Path.{_≡_, subst}
 use mathlib.Core.Logic.{_≢_}
 use Prim.Native.Nat.{ℕ, _≤_, _<_}
 use native.Mathlib.Omega.{arith}
+use Rattle.card.specs.declared.place.Block.{Block}
+use Rattle.card.specs.declared.place.Cell.{Cell}
 use Rattle.card.specs.Memory.{blockCells, wordAddress, cellAt}
+use Rattle.card.proofs.MemoryLaws.{same-block}
 use Rattle.message.specs.declared.state.OpenMessage.{OpenMessage}
 use Rattle.message.specs.declared.state.Message.the-variants.{Idle, Open}
 use Rattle.terminal.specs.State.{Card}
@@ -71,9 +74,9 @@ idle-may-write-nothing old idle a-silence (table-cell with-block closes stays is
 
 -- what words and silences may write, of the message that is open
 data Place (message : OpenMessage) (address : ℕ) : Type 0 where
-  in-data : {cell : ℕ} → cell < 32 → address ≡ wordAddress (message .block) cell
+  in-data : {cell : Cell} → cell .0 < 32 → address ≡ wordAddress (message .block) cell
       → Place message address
-  in-service : {cell : ℕ} → 58 ≤ cell → cell ≤ 61 → address ≡ wordAddress (message .block) cell
+  in-service : {cell : Cell} → 58 ≤ cell .0 → cell .0 ≤ 61 → address ≡ wordAddress (message .block) cell
       → Place message address
   in-table : address ≡ tableAddress message → Place message address
 
@@ -99,7 +102,7 @@ module _ (old : Card) (message : OpenMessage) (is-open : old .core .message ≡ 
   place-of a-silence (table-cell with-block closes stays is) =
       same-place with-block (in-table is)
 
-  cell-kept : {event : Event} → OnBus event → (block cell : ℕ)
+  cell-kept : {event : Event} → OnBus event → (block : Block) (cell : Cell)
       → (Place message (wordAddress block cell) → ⊥)
       → cellAt (step event old .card .ram) block cell ≡ cellAt (old .ram) block cell
   unfolding cellAt
@@ -108,7 +111,7 @@ module _ (old : Card) (message : OpenMessage) (is-open : old .core .message ≡ 
       (λ may. no-place (place-of on-bus may))
 
 -- the terminal never writes other cells of a message's block, save the table cell
-pub other-cells-kept : {event : Event} (old : Card) (message : OpenMessage) (cell : ℕ)
+pub other-cells-kept : {event : Event} (old : Card) (message : OpenMessage) (cell : Cell)
     → old .core .message ≡ Open message → OnBus event
     → OtherCell cell → wordAddress (message .block) cell ≢ tableAddress message
     → cellAt (step event old .card .ram) (message .block) cell
@@ -122,14 +125,15 @@ other-cells-kept old message cell is-open on-bus other no-table =
     go (in-table is) = no-table is
 
 -- nor any cell of another block
-pub cells-elsewhere-kept : {event : Event} (old : Card) (message : OpenMessage) (block cell : ℕ)
+pub cells-elsewhere-kept : {event : Event} (old : Card) (message : OpenMessage) (block : Block)
+    (cell : Cell)
     → old .core .message ≡ Open message → OnBus event
-    → block ≢ message .block → cell < blockCells → wordAddress block cell ≢ tableAddress message
+    → block ≢ message .block → cell .0 < blockCells → wordAddress block cell ≢ tableAddress message
     → cellAt (step event old .card .ram) block cell ≡ cellAt (old .ram) block cell
 cells-elsewhere-kept old message block cell is-open on-bus elsewhere inside no-table =
     cell-kept old message is-open on-bus block cell go
   where
     go : Place message (wordAddress block cell) → ⊥
-    go (in-data low is) = elsewhere (omega arith)
-    go (in-service from to is) = elsewhere (omega arith)
+    go (in-data low is) = elsewhere (same-block (omega arith))
+    go (in-service from to is) = elsewhere (same-block (omega arith))
     go (in-table is) = no-table is

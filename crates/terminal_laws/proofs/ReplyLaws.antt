@@ -9,7 +9,9 @@ use native.Mathlib.Omega.{arith}
 use lib.Dec.{eqb}
 use lib.ListN.{length, take, drop, length-take, length-drop}
 use lib.Seq.{ext-getD, getD-take, getD-drop}
-use Rattle.card.specs.Memory.{wordAddress, cellAt}
+use Rattle.card.specs.declared.place.Block.{Block}
+use Rattle.card.specs.declared.place.Cell.{Cell}
+use Rattle.card.specs.Memory.{theCell, wordAddress, cellAt}
 use Rattle.card.specs.Sent.{sentPart}
 use Rattle.message.specs.declared.judge.SilenceAct.{SilenceAct}
 use Rattle.message.specs.declared.judge.SilenceAct.the-variants.{Ignore, AwaitStatus, Fault, End}
@@ -35,18 +37,18 @@ use Rattle.terminal_laws.proofs.StepFrame.{silence-step, step-writes-on
 -- ---- the part that is sent
 
 -- the same words in the cells make the same part
-same-sent : (ram other : List ℕ) (block count : ℕ) → length ram ≡ length other
-    → ((cell : ℕ) → cell < count → cellAt ram block cell ≡ cellAt other block cell)
+same-sent : (ram other : List ℕ) (block : Block) (count : ℕ) → length ram ≡ length other
+    → ((cell : Cell) → cell .0 < count → cellAt ram block cell ≡ cellAt other block cell)
     → sentPart ram block count ≡ sentPart other block count
 unfolding sentPart cellAt
 same-sent ram other block count long cells =
-    let start = wordAddress block 0 in
+    let start = wordAddress block (theCell 0) in
     let part : take count (drop start ram) ≡ take count (drop start other) =
     ext-getD 0 (take count (drop start ram)) (take count (drop start other))
     (simp (length-take, length-drop, long))
     (λ cell inside.
     let below : cell < count = omega (arith, simp length-take at inside) in
-    let at : wordAddress block cell ≡ start + cell = omega arith in
+    let at : wordAddress block (theCell cell) ≡ start + cell = omega arith in
     rw (
       getD-take count (drop start ram) cell 0 below,
       getD-take count (drop start other) cell 0 below,
@@ -54,18 +56,18 @@ same-sent ram other block count long cells =
       getD-drop start other cell 0,
       ← at,
     )
-    (cells cell below)) in
+    (cells (theCell cell) below)) in
     rw (long, part) refl
 
 -- answers, with what holds where one sends words
-data Sends (cell : ℕ) : Answer → Type 0 where
+data Sends (cell : Cell) : Answer → Type 0 where
   silent : Sends cell (Replied Silent)
   a-status : {status : ℕ} → Sends cell (Replied (Status status))
   a-last : {status last : ℕ} → Sends cell (Replied (Last status last))
-  some-words : {status block count : ℕ} → 32 ≤ cell
+  some-words : {status : ℕ} {block : Block} {count : ℕ} → 32 ≤ cell .0
       → Sends cell (Replied (Words status block count))
 
-sends-if : {cell : ℕ} {reply other : Reply} (test : Bool)
+sends-if : {cell : Cell} {reply other : Reply} (test : Bool)
     → (test ≡ true → Sends cell (Replied reply)) → (test ≡ false → Sends cell (Replied other))
     → Sends cell (Replied (cond test reply other))
 sends-if true holds fails = holds refl
@@ -95,16 +97,16 @@ module _ (message : OpenMessage) (time : ℕ) (old : Card) where
       (sends-by-high-cell (message .command)
       (sends-some (message .busy && asked .yields) (asked .sends) some)))))
 
-high-cell : {cell status block count : ℕ} → Sends cell (Replied (Words status block count))
-    → 32 ≤ cell
+high-cell : {cell : Cell} {status : ℕ} {block : Block} {count : ℕ}
+    → Sends cell (Replied (Words status block count)) → 32 ≤ cell .0
 high-cell (some-words high) = high
 
 -- ---- the law
 
-module _ (line : Bool) (time : ℕ) (old : Card) (status block count : ℕ)
+module _ (line : Bool) (time : ℕ) (old : Card) (status : ℕ) (block : Block) (count : ℕ)
     (replied : step (silence line time) old .answer ≡ Replied (Words status block count)) where
   high-table-cell : (message : OpenMessage) → old .core .message ≡ Open message
-      → 32 ≤ asks message .cell
+      → 32 ≤ asks message .cell .0
   high-table-cell message is-open =
       high-cell
       (subst (Sends (asks message .cell))
@@ -114,7 +116,7 @@ module _ (line : Bool) (time : ℕ) (old : Card) (status block count : ℕ)
       (high-done message time old (silenceJudged message line)))
 
   -- the closing writes none of the cells that are sent
-  sent-cell-unwritten : (cell address : ℕ) → cell < count → address ≡ wordAddress block cell
+  sent-cell-unwritten : (cell : Cell) (address : ℕ) → cell .0 < count → address ≡ wordAddress block cell
       → MayWrite old (silence line time) address → ⊥
   sent-cell-unwritten cell address below at (service-cell with-block closes from to is) =
       omega (arith, sent-at-most (silence line time) old status block count replied)
@@ -128,8 +130,9 @@ module _ (line : Bool) (time : ℕ) (old : Card) (status block count : ℕ)
       )
 
 -- the cells that are sent hold what they held
-pub sent-cells-stay : (line : Bool) (time : ℕ) (old : Card) (status block count cell : ℕ)
-    → step (silence line time) old .answer ≡ Replied (Words status block count) → cell < count
+pub sent-cells-stay : (line : Bool) (time : ℕ) (old : Card) (status : ℕ) (block : Block) (count : ℕ)
+    (cell : Cell)
+    → step (silence line time) old .answer ≡ Replied (Words status block count) → cell .0 < count
     → cellAt (step (silence line time) old .card .ram) block cell ≡ cellAt (old .ram) block cell
 unfolding cellAt
 sent-cells-stay line time old status block count cell replied below =

@@ -7,7 +7,9 @@ use mathlib.Core.Path.{_≡_, refl, ap, _∙_}
 use mathlib.Core.Bool.{Bool, true, false, cond}
 use mathlib.Core.List.{List}
 use Prim.Native.Nat.{ℕ, _≤_}
-use Rattle.card.specs.Memory.{wordAddress, withService}
+use Rattle.card.specs.declared.place.Block.{Block}
+use Rattle.card.specs.declared.place.Cell.{Cell}
+use Rattle.card.specs.Memory.{theCell, wordAddress, withService}
 use Rattle.card.specs.Time.{ticksOf}
 use Rattle.card.proofs.Frame.{
   Keeps,
@@ -114,7 +116,7 @@ module _ {Written : ℕ → Type 0} where
 
   -- a closing: cells 58 to 61, and the table cell unless the host has set the table block since
   written-closing : (asked : Asked) (state time : ℕ) (message : OpenMessage) (ram : List ℕ)
-      → (asked .block ≡ true → (cell address : ℕ) → 58 ≤ cell → cell ≤ 61
+      → (asked .block ≡ true → (cell : Cell) (address : ℕ) → 58 ≤ cell .0 → cell .0 ≤ 61
       → address ≡ wordAddress (message .block) cell → Written address)
       → (asked .block ≡ true → message .moved ≡ false → (address : ℕ)
       → address ≡ wordAddress (message .home) (asked .cell) → Written address)
@@ -122,13 +124,13 @@ module _ {Written : ℕ → Type 0} where
   unfolding closedRam
   written-closing asked state time message ram = go (asked .block) (message .moved)
     where
-      block : ℕ
+      block : Block
       block = message .block
 
       ticks : ℕ
       ticks = ticksOf (message .opened) time
 
-      service : ((cell address : ℕ) → 58 ≤ cell → cell ≤ 61
+      service : ((cell : Cell) (address : ℕ) → 58 ≤ cell .0 → cell .0 ≤ 61
           → address ≡ wordAddress block cell → Written address)
           → Keeps Written (λ ram. withService ram block state time ticks)
       service may =
@@ -138,7 +140,7 @@ module _ {Written : ℕ → Type 0} where
           (service-keeps block state time ticks)
 
       go : (has moved : Bool)
-          → (has ≡ true → (cell address : ℕ) → 58 ≤ cell → cell ≤ 61
+          → (has ≡ true → (cell : Cell) (address : ℕ) → 58 ≤ cell .0 → cell .0 ≤ 61
           → address ≡ wordAddress block cell → Written address)
           → (has ≡ true → moved ≡ false → (address : ℕ)
           → address ≡ wordAddress (message .home) (asked .cell) → Written address)
@@ -172,7 +174,7 @@ module _ (old : Card) (message : OpenMessage) (is-open : old .core .message ≡ 
 
   -- rule 8
   stored-writes : (heard : Word) (next : ℕ) → wordJudged old message heard ≡ Store next
-      → (address : ℕ) → address ≡ wordAddress (message .block) (message .taken)
+      → (address : ℕ) → address ≡ wordAddress (message .block) (theCell (message .taken))
       → MayWrite old (word heard) address
   stored-writes heard next judged address is =
       data-cell (with-block (stores-with-block old message heard next judged))
@@ -186,7 +188,7 @@ module _ (old : Card) (message : OpenMessage) (is-open : old .core .message ≡ 
   word-done-writes (Store next) heard judged =
       written-by
       (keeps-to-more (stored-writes heard next judged)
-      (cell-keeps (message .block) (message .taken) (heard .value)))
+      (cell-keeps (message .block) (theCell (message .taken)) (heard .value)))
       (old .ram)
   word-done-writes (Check next) heard judged = nothing-written (old .ram)
   word-done-writes (TakeSecond value) heard judged = nothing-written (old .ram)

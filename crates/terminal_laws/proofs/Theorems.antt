@@ -7,6 +7,7 @@ use mathlib.Core.Bool.{Bool}
 use mathlib.Core.List.{List, _∷_}
 use Prim.Native.Nat.{ℕ}
 use Rattle.bus.specs.declared.word.Word.{Word}
+use Rattle.card.specs.declared.place.Cell.{Cell}
 use Rattle.card.specs.Memory.{wordAddress, cellAt}
 use Rattle.message.specs.declared.state.OpenMessage.{OpenMessage}
 use Rattle.message.specs.declared.state.Message.the-variants.{Open}
@@ -60,7 +61,7 @@ step-writes-only : (event : Event) (old : Card)
 step-writes-only = frame.step-writes-only
 
 -- .. so are the other cells of a message's block, save the table cell
-other-cells-kept : {event : Event} (old : Card) (message : OpenMessage) (cell : ℕ)
+other-cells-kept : {event : Event} (old : Card) (message : OpenMessage) (cell : Cell)
     → old .core .message ≡ Open message → OnBus event
     → OtherCell cell → wordAddress (message .block) cell ≢ tableAddress message
     → cellAt (step event old .card .ram) (message .block) cell

@@ -7,7 +7,7 @@ use mathlib.Core.Bool.{true, false}
 use mathlib.Core.List.{List, [], _∷_, _++_}
 use Prim.Native.Nat.{ℕ, _<_}
 use lib.ListN.{length}
-use Rattle.card.specs.Memory.{cellAt}
+use Rattle.card.specs.Memory.{theCell, cellAt}
 use Rattle.card.specs.TableWord.{blockOf}
 use Rattle.message.specs.declared.state.OpenMessage.{OpenMessage}
 use Rattle.message.specs.declared.state.Message.{Message}
@@ -22,7 +22,7 @@ use Rattle.terminal_laws.specs.Written.{tableAddress, MayWrite}
 
 -- the link of the message's block: cell 63, all sixteen bits
 abbrev pub linkOf : OpenMessage → Card → ℕ
-linkOf message old = cellAt (old .ram) (message .block) 63
+linkOf message old = cellAt (old .ram) (message .block) (theCell 63)
 
 -- what stands in its table cell
 abbrev pub tableWordOf : OpenMessage → Card → ℕ

@@ -9,7 +9,9 @@ use lib.ListN.{length, getD, take, drop}
 use Rattle.bus.specs.declared.kind.Kind.the-variants.{Receive, ModeStatus, ModeLast}
 use Rattle.bus.specs.Kind.{kindOf}
 use Rattle.bus.specs.Status.{withoutError}
-use Rattle.card.specs.Memory.{wordAddress}
+use Rattle.card.specs.declared.place.Block.{Block}
+use Rattle.card.specs.declared.place.Cell.{Cell}
+use Rattle.card.specs.Memory.{theCell, wordAddress}
 use Rattle.queue.specs.declared.Queue.{Queue}
 use Rattle.message.specs.declared.state.OpenMessage.{OpenMessage}
 use Rattle.message.specs.declared.state.Message.{Message}
@@ -23,9 +25,10 @@ use Rattle.terminal.specs.Event.{Event, word, silence, Outcome, Opened, none, k
 use Rattle.terminal.specs.Machine.{step, run}
 
 -- first exception: data and service cells of blocks that broken messages cost, the `Spent` ones
-pub record Kept (Spent : ℕ → Type 0) (address : ℕ) : Type 0 where
-  pub data-cell : (block cell : ℕ) → Spent block → cell < 32 → address ≢ wordAddress block cell
-  pub service-cell : (block cell : ℕ) → Spent block → 58 ≤ cell → cell ≤ 61
+pub record Kept (Spent : Block → Type 0) (address : ℕ) : Type 0 where
+  pub data-cell : (block : Block) (cell : Cell) → Spent block → cell .0 < 32
+      → address ≢ wordAddress block cell
+  pub service-cell : (block : Block) (cell : Cell) → Spent block → 58 ≤ cell .0 → cell .0 ≤ 61
       → address ≢ wordAddress block cell
 
 -- queues are the same, entry for entry: none is excepted
@@ -33,7 +36,7 @@ pub record SameQueue (here there : Queue) : Type 0 where
   pub entries : here ≡ there
 
 -- what the card holds is the same: the queue, and every memory cell that is kept
-pub record Alike (Spent : ℕ → Type 0) (here there : Card) : Type 0 where
+pub record Alike (Spent : Block → Type 0) (here there : Card) : Type 0 where
   pub queue : SameQueue (here .queue) (there .queue)
   pub long : length (here .ram) ≡ length (there .ram)
   pub cell : (address : ℕ) → Kept Spent address
@@ -59,16 +62,17 @@ pub data SameAnswer : Bool → Message → Answer → Answer → Type 0 where
       → SameAnswer true (Open message) (Replied (Last status last)) (Replied (Last other last))
 
 -- what one event brings: the answer, with the words that it sends from a block, and the card
-pub record SameOutcome (Spent : ℕ → Type 0) (before : Bool) (message : Message)
+pub record SameOutcome (Spent : Block → Type 0) (before : Bool) (message : Message)
     (here there : Outcome) : Type 0 where
   pub answer : SameAnswer before message (here .answer) (there .answer)
-  pub words : (status block count : ℕ) → here .answer ≡ Replied (Words status block count)
-      → take count (drop (wordAddress block 0) (here .card .ram))
-      ≡ take count (drop (wordAddress block 0) (there .card .ram))
+  pub words : (status : ℕ) (block : Block) (count : ℕ)
+      → here .answer ≡ Replied (Words status block count)
+      → take count (drop (wordAddress block (theCell 0)) (here .card .ram))
+      ≡ take count (drop (wordAddress block (theCell 0)) (there .card .ram))
   pub cards : Alike Spent (here .card) (there .card)
 
 -- .. and so for each of the events with which both runs go on
-unfoldable pub Later : (ℕ → Type 0) → Bool → List Event → Card → Card → Type 0
+unfoldable pub Later : (Block → Type 0) → Bool → List Event → Card → Card → Type 0
 Later Spent before [] here there = Unit {0}
 Later Spent before (event ∷ after) here there =
     SameOutcome Spent before (here .core .message) (step event here) (step event there)
@@ -76,7 +80,7 @@ Later Spent before (event ∷ after) here there =
     (step event here .card) (step event there .card)
 
 -- the claim; where both messages have closed, the cards are alike before the next event too
-pub record SameAfter (Spent : ℕ → Type 0) (after : List Event) (here there : Card) : Type 0 where
+pub record SameAfter (Spent : Block → Type 0) (after : List Event) (here there : Card) : Type 0 where
   pub at-once : here .core .message ≡ Idle → there .core .message ≡ Idle → Alike Spent here there
   pub later : Later Spent true after here there
 
@@ -99,16 +103,16 @@ pub data Settled (here there : Card) : List Event → Type 0 where
       → Settled here there (word command ∷ after)
 
 -- from there on no spent block is the table or a source of words sent: asked of the first run alone
-unfoldable pub Spared : (ℕ → Type 0) → List Event → Card → Type 0
+unfoldable pub Spared : (Block → Type 0) → List Event → Card → Type 0
 Spared Spent [] card = Unit {0}
 Spared Spent (event ∷ after) card =
     (Spent (card .core .table) → ⊥)
-    × ((status block count : ℕ) → step event card .answer ≡ Replied (Words status block count)
-    → Spent block → ⊥)
+    × ((status : ℕ) (block : Block) (count : ℕ)
+    → step event card .answer ≡ Replied (Words status block count) → Spent block → ⊥)
     × Spared Spent after (step event card .card)
 
 -- the one spent block: that of the message that the command opened
-unfoldable pub ThatBlock : Message → ℕ → Type 0
+unfoldable pub ThatBlock : Message → Block → Type 0
 ThatBlock Idle block = ⊥
 ThatBlock (Open message) block = block ≡ message .block
 

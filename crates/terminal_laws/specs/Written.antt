@@ -6,7 +6,9 @@ use mathlib.Core.Bool.{Bool, false, _&&_}
 use mathlib.Core.List.{List}
 use Prim.Native.Nat.{ℕ, _+_, _≤_, _<_}
 use lib.ListN.{length, getD}
-use Rattle.card.specs.Memory.{blockCells, wordAddress}
+use Rattle.card.specs.declared.place.Block.{Block}
+use Rattle.card.specs.declared.place.Cell.{Cell}
+use Rattle.card.specs.Memory.{blockCells, theCell, wordAddress}
 use Rattle.message.specs.declared.judge.WordAct.the-variants.{Store}
 use Rattle.message.specs.declared.state.OpenMessage.{OpenMessage}
 use Rattle.bus.specs.declared.word.Word.{Word}
@@ -40,12 +42,12 @@ pub data MayWrite (old : Card) : Event → ℕ → Type 0 where
   -- the next data cell of the open message's block
   data-cell : {message : OpenMessage} {heard : Word} {address : ℕ}
       → OpenWithBlock old message → Stores old message heard
-      → address ≡ wordAddress (message .block) (message .taken)
+      → address ≡ wordAddress (message .block) (theCell (message .taken))
       → MayWrite old (word heard) address
   -- cells 58 to 61 of the block of the message that the event closes
-  service-cell : {message : OpenMessage} {event : Event} {cell address : ℕ}
+  service-cell : {message : OpenMessage} {event : Event} {cell : Cell} {address : ℕ}
       → OpenWithBlock old message → Closes old message event
-      → 58 ≤ cell → cell ≤ 61 → address ≡ wordAddress (message .block) cell
+      → 58 ≤ cell .0 → cell .0 ≤ 61 → address ≡ wordAddress (message .block) cell
       → MayWrite old event address
   -- the table cell of its opening, unless the host has set the table block since
   table-cell : {message : OpenMessage} {event : Event} {address : ℕ}
@@ -73,11 +75,11 @@ pub data OnBus : Event → Type 0 where
 -- the host's actions that are no write of words
 pub data OtherAction : Event → Type 0 where
   a-queue-read : OtherAction queueRead
-  a-table-move : {table : ℕ} → OtherAction (tableMove table)
+  a-table-move : {table : Block} → OtherAction (tableMove table)
   a-flags-write : {flags : ℕ} → OtherAction (flagsWrite flags)
 
 -- a block's other cells, 32 to 57, 62 and the link: neither data nor service cells
-pub record OtherCell (cell : ℕ) : Type 0 where
-  pub no-data-cell : 32 ≤ cell
-  pub no-service-cell : 58 ≤ cell → cell ≤ 61 → ⊥
-  pub in-block : cell < blockCells
+pub record OtherCell (cell : Cell) : Type 0 where
+  pub no-data-cell : 32 ≤ cell .0
+  pub no-service-cell : 58 ≤ cell .0 → cell .0 ≤ 61 → ⊥
+  pub in-block : cell .0 < blockCells

@@ -7,6 +7,7 @@ use native.Mathlib.Omega.{arith}
 use lib.Dec.{eqb}
 use lib.ListN.{length, take, drop}
 use lib.Seq.{sets}
+use Rattle.card.specs.Memory.{theBlock}
 use Rattle.queue.specs.declared.Ring.{Ring}
 use Rattle.queue.specs.declared.RingRead.{RingRead}
 use Rattle.queue.specs.Queue.{queue, emptyQueue, readFrom}
@@ -60,7 +61,7 @@ module _ (told : Field) (window places ram : List ℕ) (held : Held) where
       (places′ : List ℕ)
       → told ≡ field.Setup station table flags
       → queue places′ ring ≡ emptyQueue
-      → core ≡ coreAtSetup station table flags
+      → core ≡ coreAtSetup station (theBlock table) flags
       → left ≡ quiet core ring
       → shown (cardOf (left .held) places′ ram) (left .answer) ≡ comes
   unfolding happened happeningOf
@@ -101,7 +102,9 @@ module _ (told : Field) (window places ram : List ℕ) (held : Held) where
 
   pub table-comes : (table : ℕ) (core : Core) (left : Happened)
       → told ≡ field.Table table
-      → core ≡ withTable table (withMessage (movedMessage (held .core .message)) (held .core))
+      → core
+      ≡ withTable (theBlock table)
+      (withMessage (movedMessage (held .core .message)) (held .core))
       → left ≡ quiet core (held .ring)
       → shown (cardOf (left .held) places ram) (left .answer) ≡ comes
   unfolding happened happeningOf step tableMoveStep

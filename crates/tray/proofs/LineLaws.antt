@@ -9,7 +9,8 @@ use native.Mathlib.Omega.{arith}
 use lib.Dec.{eqb}
 use lib.ListN.{length, take, drop, length-take}
 use borrow.Author.Tests.{eqb-true, ne-eqb}
-use Rattle.card.specs.Memory.{wordAddress}
+use Rattle.card.specs.declared.place.Block.{Block}
+use Rattle.card.specs.Memory.{theCell, wordAddress}
 use Rattle.card.specs.Sent.{sentRefusal, sentPart}
 use Rattle.card.proofs.SentLaws.{shown}
 use Rattle.terminal.specs.declared.state.Answer.{Answer}
@@ -35,19 +36,20 @@ nothing-written out at =
 -- ---- the line of a reply
 
 -- no reply sends more than 32 words
-pub few-sent : (ram : List ℕ) (block count : ℕ) → length (sentPart ram block count) ≤ mostWords
+pub few-sent : (ram : List ℕ) (block : Block) (count : ℕ)
+    → length (sentPart ram block count) ≤ mostWords
 unfolding sentPart
 few-sent ram block count = go (eqb number 0) refl where
   number : ℕ
   number = sentRefusal (length ram) block count
 
   go : (test : Bool) → eqb number 0 ≡ test
-      → length (cond test (take count (drop (wordAddress block 0) ram)) []) ≤ mostWords
+      → length (cond test (take count (drop (wordAddress block (theCell 0)) ram)) []) ≤ mostWords
   go true is =
       omega (
         arith,
         shown (length ram) block count (eqb-true number 0 is) .at-most-32,
-        length-take count (drop (wordAddress block 0) ram),
+        length-take count (drop (wordAddress block (theCell 0)) ram),
       )
   go false is = omega arith
 
@@ -63,7 +65,8 @@ module _ (out : List ℕ) (at : ℕ) (ram : List ℕ) (reply : Reply) where
         → put next after ≡ statusWritten out at status [] → put next after ≡ wanted
     status-line status is is-put = rw (is, is-put) (few-words out at status [] (omega arith))
 
-    pub words-line : (status block count : ℕ) (words : List ℕ) → reply ≡ Words status block count
+    pub words-line : (status : ℕ) (block : Block) (count : ℕ) (words : List ℕ)
+        → reply ≡ Words status block count
         → words ≡ sentPart ram block count
         → put next after ≡ statusWritten out at status words → put next after ≡ wanted
     words-line status block count words is is-words is-put =

@@ -7,7 +7,8 @@ use Prim.Native.Nat.{ℕ, suc, _+_, _-_, _≤_, _<_}
 use native.Mathlib.Omega.{arith}
 use lib.ListN.{length}
 use borrow.Author.Tests.{not-true, not-false}
-use Rattle.card.specs.Memory.{withCell}
+use Rattle.card.specs.declared.place.Block.{Block}
+use Rattle.card.specs.Memory.{theCell, withCell}
 use Rattle.message.specs.declared.state.OpenMessage.{OpenMessage}
 use Rattle.message.specs.declared.state.Message.the-variants.{Open}
 use Rattle.message.specs.Message.{further}
@@ -23,13 +24,14 @@ use Rattle.tray.specs.AsCoded.Row.{stored, rowWith, rowStored, wantedBy,
 
 -- ---- the loop
 
-pub record Storing (window : List ℕ) (marks block wanted : ℕ) (row₀ : Row) (ram₀ : List ℕ)
+pub record Storing (window : List ℕ) (marks : ℕ) (block : Block) (wanted : ℕ) (row₀ : Row)
+    (ram₀ : List ℕ)
     (row : Row) (ram : List ℕ) : Type 0 where
   pub leads : rowStored (wanted - row .taken) window marks block (stored row ram)
       ≡ rowStored (wanted - row₀ .taken) window marks block (stored row₀ ram₀)
   pub ram-as-long : length ram ≡ length ram₀
 
-module _ (window : List ℕ) (marks block wanted : ℕ) where
+module _ (window : List ℕ) (marks : ℕ) (block : Block) (wanted : ℕ) where
   pub storing-at-start : (row : Row) (ram : List ℕ)
       → Storing window marks block wanted row ram row ram
   storing-at-start row ram = record { leads = refl; ram-as-long = refl }
@@ -42,7 +44,7 @@ module _ (window : List ℕ) (marks block wanted : ℕ) where
     pub storing-on : (found : Found) (value next : ℕ) (row′ : Row) (ram′ : List ℕ)
         → row .taken < wanted
         → found ≡ wordFound window (row .at) marks → found ≡ Value value next
-        → ram′ ≡ withCell ram block (row .taken) value
+        → ram′ ≡ withCell ram block (theCell (row .taken)) value
         → row′ ≡ rowWith next row
         → length ram′ ≡ length ram
         → Storing window marks block wanted row₀ ram₀ row′ ram′

@@ -8,6 +8,7 @@ use native.Mathlib.Omega.{arith}
 use lib.Dec.{leb, ltb}
 use lib.ListN.{length}
 use borrow.Author.Tests.{leb-true, ltb-true}
+use Rattle.card.specs.declared.place.Block.{Block}
 use Rattle.message.specs.declared.state.Stage.{Stage}
 use Rattle.message.specs.declared.state.Stage.the-variants.{
   Data,
@@ -51,7 +52,7 @@ record Grows (fuel : ℕ) (now end : Stored) : Type 0 where
   at-least : now .row .taken ≤ end .row .taken
   at-most : end .row .taken ≤ now .row .taken + fuel
 
-row-grows : (window : List ℕ) (marks block fuel : ℕ) (now : Stored)
+row-grows : (window : List ℕ) (marks : ℕ) (block : Block) (fuel : ℕ) (now : Stored)
     → Grows fuel now (rowStored fuel window marks block now)
 unfolding rowStored
 row-grows window marks block zero now =
@@ -104,7 +105,7 @@ wanted-fits begun room most message = go (mayTakeRow begun room most) refl where
 
 -- the turns that a row takes are left
 module _ (room : ℕ) (old new : Ran) (message : OpenMessage) (window ram ram′ : List ℕ)
-    (most wanted marks block : ℕ) (first end : Row)
+    (most wanted marks : ℕ) (block : Block) (first end : Row)
     (is-new : new ≡ ranAfter old message end)
     (is-end : stored end ram′
     ≡ rowStored (wanted - first .taken) window marks block (stored first ram))

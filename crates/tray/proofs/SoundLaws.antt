@@ -7,7 +7,7 @@ use mathlib.Core.List.{List}
 use Prim.Native.Nat.{ℕ}
 use lib.ListN.{length}
 use borrow.Author.Tests.{not-false}
-use Rattle.card.specs.Memory.{cardWords}
+use Rattle.card.specs.Memory.{cardWords, theBlock}
 use Rattle.terminal.specs.State.{Card}
 use Rattle.terminal.specs.Event.{
   word,
@@ -63,7 +63,7 @@ happening-is-fit : (bytes : List ℕ) (field : Field) (place next : ℕ) (old : 
 unfolding happened happeningOf FitEvent terminalAtSetup
 happening-is-fit bytes (Setup station table flags) place next old in-order fit =
     fit-card-parts _
-    (fit-at-setup station table flags (in-order .station-at-most) (in-order .table-at-most)
+    (fit-at-setup station (theBlock table) flags (in-order .station-at-most) (in-order .table-at-most)
     (in-order .flags-at-most))
 happening-is-fit bytes (Word marks value time) place next old in-order fit =
     fit-stays-fit (word _) old tt (fit refl)
@@ -74,7 +74,7 @@ happening-is-fit bytes QueueRead place next old in-order fit =
 happening-is-fit bytes (HostWrite address first count) place next old in-order fit =
     fit-stays-fit (hostWrite address _) old tt (fit refl)
 happening-is-fit bytes (Table table) place next old in-order fit =
-    fit-stays-fit (tableMove table) old in-order (fit refl)
+    fit-stays-fit (tableMove (theBlock table)) old in-order (fit refl)
 happening-is-fit bytes (Flags flags) place next old in-order fit =
     fit-stays-fit (flagsWrite flags) old in-order (fit refl)
 

@@ -7,7 +7,7 @@ use Prim.Native.Nat.{ℕ, zero, suc, _+_, _-_, _≤_, _<_}
 use native.Mathlib.Omega.{arith}
 use lib.ListN.{length}
 use borrow.Author.Tests.{lt-leb, le-ltb}
-use Rattle.card.specs.Memory.{withCell}
+use Rattle.card.specs.Memory.{theCell, withCell}
 use Rattle.queue.specs.Queue.{queue}
 use Rattle.message.specs.declared.state.Stage.the-variants.{Data}
 use Rattle.message.specs.declared.state.OpenMessage.{OpenMessage}
@@ -54,7 +54,7 @@ module _ (old : Card) (message : OpenMessage) (heard : Word)
       (card
       (withMessage (Open (further Data (message .second) (message .taken + 1) message)) (old .core))
       (old .queue)
-      (withCell (old .ram) (message .block) (message .taken) (heard .value)))
+      (withCell (old .ram) (message .block) (theCell (message .taken)) (heard .value)))
   unfolding wordStep wordDone onWord ownCommand inData
   word-is-stored =
       rw (

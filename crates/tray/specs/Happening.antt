@@ -3,6 +3,7 @@
 use mathlib.Core.List.{List}
 use Prim.Native.Nat.{ℕ}
 use lib.Dec.{eqb}
+use Rattle.card.specs.Memory.{theBlock}
 use Rattle.queue.specs.Queue.{emptyQueue}
 use Rattle.terminal.specs.declared.state.Reply.the-variants.{Silent}
 use Rattle.terminal.specs.State.{Card, card, coreAtSetup}
@@ -45,11 +46,11 @@ happeningOf bytes (Silence line time) = event (silence (eqb line 1) time)
 happeningOf bytes QueueRead = event queueRead
 happeningOf bytes (HostWrite address first count) =
     event (hostWrite address (wordsAt bytes first count))
-happeningOf bytes (Table table) = event (tableMove table)
+happeningOf bytes (Table table) = event (tableMove (theBlock table))
 happeningOf bytes (Flags flags) = event (flagsWrite flags)
 
 -- setup makes the terminal and leaves the RAM; an event is a step of it
 unfoldable pub happened : Happening → Card → Shown
 happened (setup station table flags) old =
-    shown (card (coreAtSetup station table flags) emptyQueue (old .ram)) (replied Silent)
+    shown (card (coreAtSetup station (theBlock table) flags) emptyQueue (old .ram)) (replied Silent)
 happened (event told) old = seen (step told old)

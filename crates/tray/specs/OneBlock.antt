@@ -9,6 +9,8 @@ use lib.ListN.{length}
 use Rattle.bus.specs.declared.kind.Kind.the-variants.{ModeStatus, ModeLast}
 use Rattle.bus.specs.Kind.{kindOf}
 use Rattle.bus.specs.Status.{withoutError}
+use Rattle.card.specs.declared.place.Block.{Block}
+use Rattle.card.specs.Memory.{theBlock}
 use Rattle.queue.specs.Queue.{emptyQueue}
 use Rattle.message.specs.declared.state.OpenMessage.{OpenMessage}
 use Rattle.message.specs.declared.state.Message.{Message}
@@ -69,7 +71,7 @@ LaterLines before (told ∷ more) here there =
 module _ (ram : List ℕ) (station table flags : ℕ) where
   -- the card that the setup and some events leave
   unfoldable pub cardAfter : List Event → Card
-  cardAfter told = run told (card (coreAtSetup station table flags) emptyQueue ram)
+  cardAfter told = run told (card (coreAtSetup station (theBlock table) flags) emptyQueue ram)
 
   -- the lines of events up to the end of a stretch, those of the events after it, and END with the
   -- number of fields: the setup, and one for each event
@@ -92,7 +94,7 @@ module _ (ram : List ℕ) (station table flags : ℕ) where
       })
 
   -- the one spent block: that of the message that the command opened
-  abbrev pub SpentBlock : List Event → Word → ℕ → Type 0
+  abbrev pub SpentBlock : List Event → Word → Block → Type 0
   SpentBlock earlier heard = ThatBlock (cardAfter (upTo earlier heard []) .core .message)
 
   module _ (one two : List ℕ) (earlier : List Event) (heard : Word)

@@ -5,7 +5,7 @@ use mathlib.Core.List.{List, [], _∷_, _++_}
 use Prim.Native.Nat.{ℕ, zero, suc, _+_, _%_, _^_}
 use lib.Dec.{eqb}
 use lib.ListN.{length, drop, replicate}
-use Rattle.card.specs.Memory.{cardWords}
+use Rattle.card.specs.Memory.{cardWords, theBlock}
 use Rattle.queue.specs.Queue.{emptyQueue}
 use Rattle.terminal.specs.declared.state.Reply.{Reply}
 use Rattle.terminal.specs.declared.state.Answer.{Answer}
@@ -33,7 +33,7 @@ unfoldable pub trayOver : List ℕ → Tray
 trayOver ram =
     record {
       begun = false;
-      card = card (coreAtSetup 31 0 0) emptyQueue ram;
+      card = card (coreAtSetup 31 (theBlock 0) 0) emptyQueue ram;
       fields = 0;
       offset = 0;
     }

@@ -34,6 +34,7 @@ mod row;
 
 use bus::word;
 use card::host;
+use card::place::Block;
 use queue::Ring;
 use recording::Field;
 use recording::Reading;
@@ -87,7 +88,7 @@ impl Run {
     pub fn at_start() -> Run
         ensures { λ run. ⌜ run ≡ runAtStart ⌝ }
     {
-        let core = Core::at_setup(31, 0, 0);
+        let core = Core::at_setup(31, Block(0), 0);
         let ring = Ring {
             start: 0,
             count: 0,
@@ -166,7 +167,8 @@ fn happen(
             flags,
         } => {
             let next = empty_ring(places);
-            let new = Core::at_setup(station as u16, table as u16, flags as u16);
+            let number = table as u16;
+            let new = Core::at_setup(station as u16, Block(number), flags as u16);
             silently(new, next)
         }
         Field::Word { marks, value, time } => {
@@ -206,7 +208,8 @@ fn happen(
             silently(core, ring)
         }
         Field::Table { table } => {
-            let moved = core.move_table(table as u16);
+            let number = table as u16;
+            let moved = core.move_table(Block(number));
             silently(moved, ring)
         }
         Field::Flags { flags } => {

@@ -52,7 +52,7 @@ impl Row {
     }
 
     // Stores the words that stand next in the window with these marks, as many as are wanted.
-    fn store(self, ram: &mut [u16], window: &[u8], marks: u8, block: u16, wanted: u16) -> Row
+    fn store(self, ram: &mut [u16], window: &[u8], marks: u8, block: Block, wanted: u16) -> Row
         ensures { λ row. ⌜ stored row (now (ram .exit))
             ≡ rowStored (wanted - self .taken) (now (window .entry)) marks block
             (stored self (now (ram .entry))) ⌝ }
@@ -63,7 +63,7 @@ impl Row {
             let Found::Value { value, next } = found else {
                 break;
             };
-            memory::write_cell(ram, Block(block), Cell(row.taken), value);
+            memory::write_cell(ram, block, Cell(row.taken), value);
             row = row.with_word(next);
         }
         row
@@ -111,7 +111,8 @@ pub(crate) fn take_row(ran: Ran, ram: &mut [u16], window: &[u8], room: usize, mo
         fields: run.fields,
         offset: run.offset,
     };
-    let end = start.store(ram, window, marks_on(message.line), message.block, wanted);
+    let block = message.block;
+    let end = start.store(ram, window, marks_on(message.line), block, wanted);
     let words = (end.taken - message.taken) as u64;
     Rowed {
         ran: after_row(ran, message, end),

@@ -3,13 +3,13 @@
 use mathlib.Core.Bool.{Bool, cond, not}
 use Prim.Native.Nat.{ℕ}
 use Rattle.bus.specs.Limits.{isStation, areFlags}
-use Rattle.card.specs.Memory.{cardBlocks, isBlock}
+use Rattle.card.specs.Memory.{cardBlocks, theBlock, isBlock}
 
 -- setup: 2 no station, 3 no block of the card, 8 spare bits in the flags
 abbrev pub setupRefusal : ℕ → ℕ → ℕ → ℕ
 setupRefusal station table flags =
     cond (not (isStation station)) 2
-    (cond (not (isBlock cardBlocks table)) 3
+    (cond (not (isBlock cardBlocks (theBlock table))) 3
     (cond (not (areFlags flags)) 8 0))
 
 -- on the terminal alone: 4 not fit, then the action's own number where its input is not in order

@@ -2,7 +2,7 @@
 -- the cut that the code makes. What it comes to is said by `WordStep` and `SilenceStep`. Definitions
 -- only. Assumes nothing.
 use mathlib.Core.Bool.{Bool, true, false, cond}
-use Rattle.card.specs.Memory.{withCell}
+use Rattle.card.specs.Memory.{theCell, withCell}
 use Rattle.message.specs.declared.asked.Asked.{Asked}
 use Rattle.message.specs.declared.judge.WordAct.{WordAct}
 use Rattle.message.specs.declared.judge.WordAct.the-variants as word-acts
@@ -65,7 +65,7 @@ wordDeedDone (word-deeds.GoOn stage second taken) message word old =
     withCore (withMessage (Open (further stage second taken message)) (old .core)) old
 wordDeedDone (word-deeds.Store taken) message word old =
     withCore (withMessage (Open (further Data (message .second) taken message)) (old .core))
-    (withRam (withCell (old .ram) (message .block) (message .taken) (word .value)) old)
+    (withRam (withCell (old .ram) (message .block) (theCell (message .taken)) (word .value)) old)
 wordDeedDone (word-deeds.Fault code) message word old =
     faulted (asks message) code (word .time) message old
 

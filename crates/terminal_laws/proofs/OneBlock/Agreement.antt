@@ -9,22 +9,32 @@ use native.Mathlib.Omega.{arith}
 use native.Mathlib.Decide.{ℕ-discrete, decLt}
 use lib.ListN.{length, getD, set, take, drop, length-set, length-take, length-drop}
 use lib.Seq.{getD-set-same, getD-set-other, set-out, sets, ext-getD, getD-take, getD-drop}
-use Rattle.card.specs.Memory.{blockCells, wordAddress, cellAt, withCell, withService, withLink}
-use Rattle.card.proofs.MemoryLaws.{with-cell-inside, with-cell-past}
+use Rattle.card.specs.declared.place.Block.{Block}
+use Rattle.card.specs.declared.place.Cell.{Cell}
+use Rattle.card.specs.Memory.{
+  blockCells,
+  theCell,
+  wordAddress,
+  cellAt,
+  withCell,
+  withService,
+  withLink,
+}
+use Rattle.card.proofs.MemoryLaws.{same-block, with-cell-inside, with-cell-past}
 use Rattle.card.proofs.Frame.{Keeps, cell-keeps, service-keeps}
 use Rattle.terminal.specs.Closing.{linked}
 use Rattle.terminal_laws.specs.OneBlock.{Kept}
 
 -- as long as each other, and every kept cell the same
-pub record Agree (Spent : ℕ → Type 0) (ram other : List ℕ) : Type 0 where
+pub record Agree (Spent : Block → Type 0) (ram other : List ℕ) : Type 0 where
   pub long : length ram ≡ length other
   pub cell : (address : ℕ) → Kept Spent address → getD ram address 0 ≡ getD other address 0
 
-module _ {Spent : ℕ → Type 0} where
+module _ {Spent : Block → Type 0} where
   -- ---- which cells are kept
 
   -- the link of any block
-  pub link-kept : (block : ℕ) → Kept Spent (wordAddress block 63)
+  pub link-kept : (block : Block) → Kept Spent (wordAddress block (theCell 63))
   link-kept block =
       record {
         data-cell = λ other cell spent low same. omega arith;
@@ -32,14 +42,14 @@ module _ {Spent : ℕ → Type 0} where
       }
 
   -- every cell of a block that was not spent
-  pub unspent-kept : (block cell : ℕ) → (Spent block → ⊥) → cell < blockCells
+  pub unspent-kept : (block : Block) (cell : Cell) → (Spent block → ⊥) → cell .0 < blockCells
       → Kept Spent (wordAddress block cell)
   unspent-kept block cell unspent inside =
       record {
         data-cell = λ other cell′ spent low same.
-            unspent (subst Spent (omega arith) spent);
+            unspent (subst Spent (same-block (omega arith)) spent);
         service-cell = λ other cell′ spent from to same.
-            unspent (subst Spent (omega arith) spent);
+            unspent (subst Spent (same-block (omega arith)) spent);
       }
 
   -- ---- agreeing
@@ -73,13 +83,13 @@ module _ {Spent : ℕ → Type 0} where
       }
 
   -- a data word of a spent block, and its service cells
-  pub agree-data : (block cell word : ℕ) → Spent block → cell < 32
+  pub agree-data : (block : Block) (cell : Cell) (word : ℕ) → Spent block → cell .0 < 32
       → (ram : List ℕ) → Agree Spent ram (withCell ram block cell word)
   agree-data block cell word spent low =
       agree-changed (cell-keeps block cell word)
       (λ address kept. kept .data-cell block cell spent low)
 
-  pub agree-service : (block state closing ticks : ℕ) → Spent block
+  pub agree-service : (block : Block) (state closing ticks : ℕ) → Spent block
       → (ram : List ℕ) → Agree Spent ram (withService ram block state closing ticks)
   agree-service block state closing ticks spent =
       agree-changed (service-keeps block state closing ticks)
@@ -117,10 +127,10 @@ module _ {Spent : ℕ → Type 0} where
             )
             (agree .cell at kept)
 
-    pub both-cell : (block cell word : ℕ) → Agree Spent ram other
+    pub both-cell : (block : Block) (cell : Cell) (word : ℕ) → Agree Spent ram other
         → Agree Spent (withCell ram block cell word) (withCell other block cell word)
     both-cell block cell word agree =
-        elim (decLt cell blockCells) [
+        elim (decLt (cell .0) blockCells) [
           | yes inside ↦
               rw (
                 with-cell-inside ram block cell word inside,
@@ -141,7 +151,8 @@ module _ {Spent : ℕ → Type 0} where
   both-words address (word ∷ words) agree =
       both-words (suc address) words (both-set address word agree)
 
-  pub both-service : {ram other : List ℕ} (block state closing ticks : ℕ) → Agree Spent ram other
+  pub both-service : {ram other : List ℕ} (block : Block) (state closing ticks : ℕ)
+      → Agree Spent ram other
       → Agree Spent (withService ram block state closing ticks)
       (withService other block state closing ticks)
   unfolding withService
@@ -149,13 +160,13 @@ module _ {Spent : ℕ → Type 0} where
       both-cell _ _ _ (both-cell _ _ _ (both-cell _ _ _ (both-cell _ _ _ agree)))
 
   -- the chain rule: the link is a kept cell, so the same word goes into the same table cell
-  pub both-link : {ram other : List ℕ} (block table cell : ℕ) → Agree Spent ram other
+  pub both-link : {ram other : List ℕ} (block table : Block) (cell : Cell) → Agree Spent ram other
       → Agree Spent (withLink ram block table cell) (withLink other block table cell)
   unfolding withLink cellAt
   both-link block table cell agree =
-      rw (agree .cell (wordAddress block 63) (link-kept block)) (both-cell _ _ _ agree)
+      rw (agree .cell (wordAddress block (theCell 63)) (link-kept block)) (both-cell _ _ _ agree)
 
-  pub both-linked : {ram other : List ℕ} (moved : Bool) (block home cell : ℕ)
+  pub both-linked : {ram other : List ℕ} (moved : Bool) (block home : Block) (cell : Cell)
       → Agree Spent ram other
       → Agree Spent (linked moved block home cell ram) (linked moved block home cell other)
   both-linked true block home cell agree = agree
@@ -164,11 +175,12 @@ module _ {Spent : ℕ → Type 0} where
   -- ---- reading
 
   -- the words that a block sends
-  pub same-part : {ram other : List ℕ} (block count : ℕ) → (Spent block → ⊥) → count ≤ 32
+  pub same-part : {ram other : List ℕ} (block : Block) (count : ℕ) → (Spent block → ⊥) → count ≤ 32
       → Agree Spent ram other
-      → take count (drop (wordAddress block 0) ram) ≡ take count (drop (wordAddress block 0) other)
+      → take count (drop (wordAddress block (theCell 0)) ram)
+      ≡ take count (drop (wordAddress block (theCell 0)) other)
   same-part {ram} {other} block count unspent low agree =
-      let start = wordAddress block 0 in
+      let start = wordAddress block (theCell 0) in
       ext-getD 0 (take count (drop start ram)) (take count (drop start other))
       (simp (length-take, length-drop, agree .long))
       (λ place inside.
@@ -180,11 +192,11 @@ module _ {Spent : ℕ → Type 0} where
         getD-drop start other place 0,
       )
       (agree .cell (start + place)
-      (subst (Kept Spent) (omega arith) (unspent-kept block place unspent (omega arith)))))
+      (subst (Kept Spent) (omega arith) (unspent-kept block (theCell place) unspent (omega arith)))))
 
   -- a table cell
-  pub same-entry : {ram other : List ℕ} (table cell : ℕ) → (Spent table → ⊥) → cell < blockCells
-      → Agree Spent ram other → cellAt ram table cell ≡ cellAt other table cell
+  pub same-entry : {ram other : List ℕ} (table : Block) (cell : Cell) → (Spent table → ⊥)
+      → cell .0 < blockCells → Agree Spent ram other → cellAt ram table cell ≡ cellAt other table cell
   unfolding cellAt
   same-entry table cell unspent inside agree =
       agree .cell (wordAddress table cell) (unspent-kept table cell unspent inside)

@@ -9,6 +9,7 @@ use Rattle.bus.specs.declared.kind.Kind.{Kind}
 use Rattle.bus.specs.declared.kind.Kind.the-variants.{ModeStatus, ModeLast}
 use Rattle.bus.specs.Kind.{kindOf}
 use Rattle.bus.specs.Status.{withoutError}
+use Rattle.card.specs.declared.place.Block.{Block}
 use Rattle.message.specs.declared.judge.SilenceAct.{SilenceAct}
 use Rattle.message.specs.declared.judge.SilenceAct.the-variants.{Ignore, AwaitStatus, Fault, End}
 use Rattle.message.specs.declared.state.OpenMessage.{OpenMessage}
@@ -103,7 +104,8 @@ data AtMost32 : Answer → Type 0 where
   silent : AtMost32 (Replied Silent)
   a-status : {status : ℕ} → AtMost32 (Replied (Status status))
   a-last : {status last : ℕ} → AtMost32 (Replied (Last status last))
-  some-words : {status block count : ℕ} → count ≤ 32 → AtMost32 (Replied (Words status block count))
+  some-words : {status : ℕ} {block : Block} {count : ℕ} → count ≤ 32
+      → AtMost32 (Replied (Words status block count))
   a-queue-word : {oldest : ℕ} → AtMost32 (QueueWord oldest)
 
 at-most-if : (test : Bool) {reply other : Reply}
@@ -140,7 +142,7 @@ at-most-answer (hostWrite address words) old = silent
 at-most-answer (tableMove table) old = silent
 at-most-answer (flagsWrite flags) old = silent
 
-at-most-count : {answer : Answer} {status block count : ℕ} → AtMost32 answer
+at-most-count : {answer : Answer} {status : ℕ} {block : Block} {count : ℕ} → AtMost32 answer
     → answer ≡ Replied (Words status block count) → count ≤ 32
 at-most-count silent is = let clash : _≡_ {A = ℕ} 0 1 = cc in omega arith
 at-most-count a-status is = let clash : _≡_ {A = ℕ} 0 1 = cc in omega arith
@@ -150,6 +152,6 @@ at-most-count {count = count} (some-words {count = sent} fits) is =
     omega arith
 at-most-count a-queue-word is = let clash : _≡_ {A = ℕ} 0 1 = cc in omega arith
 
-pub sent-at-most : (event : Event) (old : Card) (status block count : ℕ)
+pub sent-at-most : (event : Event) (old : Card) (status : ℕ) (block : Block) (count : ℕ)
     → step event old .answer ≡ Replied (Words status block count) → count ≤ 32
 sent-at-most event old status block count is = at-most-count (at-most-answer event old) is

@@ -18,6 +18,7 @@ use Rattle.bus.specs.declared.kind.Kind.the-variants.{
 }
 use Rattle.bus.specs.Kind.{kindOf}
 use Rattle.bus.specs.Status.{withError}
+use Rattle.card.specs.declared.place.Block.{Block}
 use Rattle.card.specs.Memory.{cellAt, withService}
 use Rattle.card.specs.Time.{ticksOf}
 use Rattle.queue.specs.declared.Queue.{Queue}
@@ -60,7 +61,7 @@ use Rattle.terminal_laws.proofs.OneBlock.Relation.{
 -- ---- memory
 
 -- a closing
-pub both-closed : {Spent : ℕ → Type 0} {ram other : List ℕ} (asked : Asked) (state time : ℕ)
+pub both-closed : {Spent : Block → Type 0} {ram other : List ℕ} (asked : Asked) (state time : ℕ)
     (message : OpenMessage) → Agree Spent ram other
     → Agree Spent (closedRam asked state time message ram)
     (closedRam asked state time message other)
@@ -109,7 +110,7 @@ statuses-opened Illegal entry word core status is statuses = equal
 -- ---- on a card, and on one with another remembered status, a queue that is the same, and a memory
 -- that agrees
 
-module _ {Spent : ℕ → Type 0} {before : Bool} (core : Core) (status : ℕ)
+module _ {Spent : Block → Type 0} {before : Bool} (core : Core) (status : ℕ)
     (queue queue′ : Queue) (queues : SameQueue queue queue′)
     (ram other : List ℕ) (agree : Agree Spent ram other) where
   pub related-faulted : (asked : Asked) (code time : ℕ) (message : OpenMessage)
@@ -160,7 +161,7 @@ module _ {Spent : ℕ → Type 0} {before : Bool} (core : Core) (status : ℕ)
       }
 
 -- an opening, of related cards
-pub related-opening : {Spent : ℕ → Type 0} {before : Bool} {here there : Card} (word : Word)
+pub related-opening : {Spent : Block → Type 0} {before : Bool} {here there : Card} (word : Word)
     → (Spent (here .core .table) → ⊥) → Related Spent before here there
     → Related Spent (stillBefore before (openedBy (askedOf (word .value))))
     (opening word here) (opening word there)

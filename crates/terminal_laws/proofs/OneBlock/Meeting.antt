@@ -9,6 +9,7 @@ use native.Mathlib.Omega.{arith}
 use Rattle.bus.specs.declared.kind.Kind.the-variants.{Receive}
 use Rattle.bus.specs.Kind.{kindOf}
 use Rattle.bus.specs.Status.{withoutError}
+use Rattle.card.specs.declared.place.Block.{Block}
 use Rattle.message.specs.declared.judge.WordAct.{WordAct}
 use Rattle.message.specs.declared.state.OpenMessage.{OpenMessage}
 use Rattle.message.specs.declared.state.Message.the-variants.{Idle, Open}
@@ -39,7 +40,7 @@ use Rattle.terminal_laws.proofs.OneBlock.Stretch.{Span, is-open, is-gon
 
 -- ---- one stretch
 
-module _ (Spent : ℕ → Type 0) (start : Card) (message : OpenMessage) where
+module _ (Spent : Block → Type 0) (start : Card) (message : OpenMessage) where
   -- it moves neither table nor station nor flags
   same-own : {here : Card} (heard : Word) → Span Spent start message here
       → ownCommand (here .core .station) (here .core .flags) heard
@@ -91,7 +92,7 @@ module _ (Spent : ℕ → Type 0) (start : Card) (message : OpenMessage) where
 -- ---- two stretches, from cards that are related
 
 -- the cards are related at once, or the next command makes them so
-pub data Meet (Spent : ℕ → Type 0) (here there : Card) : List Event → Type 0 where
+pub data Meet (Spent : Block → Type 0) (here there : Card) : List Event → Type 0 where
   at-once : {after : List Event} → Related Spent true here there → Meet Spent here there after
   at-next : {after : List Event} (command : Word)
       → StillRelated Spent true (here .core .message)
@@ -101,7 +102,7 @@ pub data Meet (Spent : ℕ → Type 0) (here there : Card) : List Event → Type
 open-is-not-idle : {message : OpenMessage} → Open message ≡ Idle → ⊥
 open-is-not-idle is = let clash : _≡_ {A = ℕ} 0 1 = cc in omega arith
 
-module _ {Spent : ℕ → Type 0} {before : Bool} (start start′ : Card) (message : OpenMessage)
+module _ {Spent : Block → Type 0} {before : Bool} (start start′ : Card) (message : OpenMessage)
     (related : Related Spent before start start′) where
   -- both messages have closed: the remembered statuses are the same but for the message error bit
   pub both-gone : {here there : Card}
@@ -172,7 +173,7 @@ module _ {Spent : ℕ → Type 0} {before : Bool} (start start′ : Card) (messa
         at-next command (next-supersedes command span span′ opening unjoined (spared .0))
 
 -- what the common tail makes of it
-pub meet-later : {Spent : ℕ → Type 0} {here there : Card} (after : List Event)
+pub meet-later : {Spent : Block → Type 0} {here there : Card} (after : List Event)
     → Meet Spent here there after → Spared Spent after here → Later Spent true after here there
 unfolding Spared Later
 meet-later after (at-once related) spared = tail after spared related

@@ -7,6 +7,7 @@ use Rattle.bus.specs.declared.kind.Kind.{Kind}
 use Rattle.bus.specs.declared.kind.Kind.the-variants.{ModeStatus, ModeLast}
 use Rattle.bus.specs.Kind.{kindOf}
 use Rattle.bus.specs.Status.{withoutError, withError}
+use Rattle.card.specs.declared.place.Block.{Block}
 use Rattle.message.specs.declared.state.Stage.{Stage}
 use Rattle.message.specs.declared.state.Second.{Second}
 use Rattle.message.specs.declared.state.OpenMessage.{OpenMessage}
@@ -76,14 +77,14 @@ statuses-moved (but-error (asking asks) same) = but-error (asking asks) same
 
 -- ---- two cards, and what comes of one event
 
-pub record Related (Spent : ℕ → Type 0) (before : Bool) (here there : Card) : Type 0 where
+pub record Related (Spent : Block → Type 0) (before : Bool) (here there : Card) : Type 0 where
   pub status : ℕ
   pub core : there .core ≡ withStatus status (here .core)
   pub queue : SameQueue (here .queue) (there .queue)
   pub statuses : Statuses before (here .core .message) (here .core .status) status
   pub cells : Agree Spent (here .ram) (there .ram)
 
-pub related-self : {Spent : ℕ → Type 0} {before : Bool} (here : Card)
+pub related-self : {Spent : Block → Type 0} {before : Bool} (here : Card)
     → Related Spent before here here
 unfolding withStatus
 related-self here =
@@ -95,7 +96,7 @@ related-self here =
       cells = agree-refl (here .ram);
     }
 
-pub related-alike : {Spent : ℕ → Type 0} {before : Bool} {here there : Card}
+pub related-alike : {Spent : Block → Type 0} {before : Bool} {here there : Card}
     → Related Spent before here there → Alike Spent here there
 related-alike related = record {
   queue = related .queue;
@@ -103,7 +104,7 @@ related-alike related = record {
   cell = related .cells .cell;
 }
 
-pub record StillRelated (Spent : ℕ → Type 0) (before : Bool) (message : Message)
+pub record StillRelated (Spent : Block → Type 0) (before : Bool) (message : Message)
     (here there : Outcome) : Type 0 where
   pub answer : SameAnswer before message (here .answer) (there .answer)
   pub related : Related Spent (stillBefore before (here .opened)) (here .card) (there .card)

@@ -8,6 +8,8 @@ use Rattle.bus.specs.declared.kind.Kind.the-variants.{Receive}
 use Rattle.bus.specs.Kind.{kindOf}
 use Rattle.bus.specs.Status.{withoutError, withError}
 use Rattle.bus.proofs.StatusLaws.{without-error-of-with-error}
+use Rattle.card.specs.declared.place.Block.{Block}
+use Rattle.card.specs.Memory.{theCell}
 use Rattle.card.specs.Time.{ticksOf}
 use Rattle.message.specs.declared.judge.WordAct.{WordAct}
 use Rattle.message.specs.declared.judge.WordAct.the-variants.{
@@ -83,7 +85,7 @@ gone start message status ram =
     ram
 
 -- the cards that the stretch can lead to from `start`, where the message is open
-pub data Span (Spent : ℕ → Type 0) (start : Card) (message : OpenMessage) : Card → Type 0 where
+pub data Span (Spent : Block → Type 0) (start : Card) (message : OpenMessage) : Card → Type 0 where
   is-open : {ram : List ℕ} (stage : Stage) (second : Second) (taken : ℕ)
       → Agree Spent (start .ram) ram
       → Span Spent start message (onward start message stage second taken ram)
@@ -92,7 +94,7 @@ pub data Span (Spent : ℕ → Type 0) (start : Card) (message : OpenMessage) : 
       → Agree Spent (linkedBy message (start .ram)) ram
       → Span Spent start message (gone start message status ram)
 
-module _ {Spent : ℕ → Type 0} (start : Card) (message : OpenMessage)
+module _ {Spent : Block → Type 0} (start : Card) (message : OpenMessage)
     (receives : kindOf (message .command) ≡ Receive) (spent : Spent (message .block)) where
   -- ---- the message goes on, or closes
 
@@ -146,7 +148,7 @@ module _ {Spent : ℕ → Type 0} (start : Card) (message : OpenMessage)
     span-word-done (Store next) heard bounded quiet =
         is-open Data second next
         (agree-trans agree
-        (agree-data (message .block) taken (heard .value) spent (bounded next refl) ram))
+        (agree-data (message .block) (theCell taken) (heard .value) spent (bounded next refl) ram))
     span-word-done (Check next) heard bounded quiet = is-open Data second next agree
     span-word-done (TakeSecond value) heard bounded quiet =
         is-open SecondCommand (Command value) taken agree

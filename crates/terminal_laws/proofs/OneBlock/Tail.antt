@@ -4,6 +4,7 @@ use mathlib.Core.Path.{_≡_, refl, sym, subst}
 use mathlib.Core.Bool.{Bool, true, false, cond}
 use mathlib.Core.List.{List, [], _∷_}
 use Prim.Native.Nat.{ℕ}
+use Rattle.card.specs.declared.place.Block.{Block}
 use Rattle.queue.specs.declared.Queue.{Queue}
 use Rattle.queue.specs.Queue.{oldestWord}
 use Rattle.message.specs.declared.judge.WordAct.{WordAct}
@@ -89,7 +90,7 @@ use Rattle.terminal_laws.proofs.OneBlock.Answers.{same-reply, sent-at-m
 -- ---- one event, on a card and on one with another remembered status, a queue that is the same, and
 -- a memory that agrees
 
-module _ {Spent : ℕ → Type 0} {before : Bool} (core : Core) (status : ℕ)
+module _ {Spent : Block → Type 0} {before : Bool} (core : Core) (status : ℕ)
     (queue queue′ : Queue) (queues : SameQueue queue queue′)
     (ram other : List ℕ) (agree : Agree Spent ram other) (unspent : Spent (core .table) → ⊥)
     (statuses : Statuses before (core .message) (core .status) status) where
@@ -260,7 +261,7 @@ module _ {Spent : ℕ → Type 0} {before : Bool} (core : Core) (status : ℕ)
 
 -- ---- related cards
 
-module _ {Spent : ℕ → Type 0} {before : Bool} {here there : Card} where
+module _ {Spent : Block → Type 0} {before : Bool} {here there : Card} where
   pub still-step : (event : Event) → (Spent (here .core .table) → ⊥)
       → Related Spent before here there
       → StillRelated Spent before (here .core .message) (step event here) (step event there)
@@ -273,10 +274,10 @@ module _ {Spent : ℕ → Type 0} {before : Bool} {here there : Card} where
       (here .ram) (there .ram) (related .cells) unspent (related .statuses) event)
 
 -- what the relation shows of an outcome
-pub still-same : {Spent : ℕ → Type 0} {before : Bool} (message : Message) (event : Event)
+pub still-same : {Spent : Block → Type 0} {before : Bool} (message : Message) (event : Event)
     (here there : Card)
-    → ((status block count : ℕ) → step event here .answer ≡ Replied (Words status block count)
-    → Spent block → ⊥)
+    → ((status : ℕ) (block : Block) (count : ℕ)
+    → step event here .answer ≡ Replied (Words status block count) → Spent block → ⊥)
     → StillRelated Spent before message (step event here) (step event there)
     → SameOutcome Spent before message (step event here) (step event there)
 still-same message event here there spared good =
@@ -289,7 +290,7 @@ still-same message event here there spared good =
     }
 
 -- the same events, one after the other
-pub tail : {Spent : ℕ → Type 0} {before : Bool} {here there : Card} (after : List Event)
+pub tail : {Spent : Block → Type 0} {before : Bool} {here there : Card} (after : List Event)
     → Spared Spent after here → Related Spent before here there
     → Later Spent before after here there
 unfolding Spared Later
@@ -308,7 +309,7 @@ stillBeforeAll before [] card = before
 stillBeforeAll before (event ∷ after) card =
     stillBeforeAll (stillBefore before (step event card .opened)) after (step event card .card)
 
-pub related-run : {Spent : ℕ → Type 0} {before : Bool} {here there : Card} (after : List Event)
+pub related-run : {Spent : Block → Type 0} {before : Bool} {here there : Card} (after : List Event)
     → Spared Spent after here → Related Spent before here there
     → Related Spent (stillBeforeAll before after here) (run after here) (run after there)
 unfolding Spared stillBeforeAll run

@@ -7,6 +7,7 @@ use mathlib.Core.List.{List, _∷_}
 use Prim.Native.Nat.{ℕ}
 use Rattle.bus.specs.declared.kind.Kind.the-variants.{Receive}
 use Rattle.bus.specs.Kind.{kindOf}
+use Rattle.card.specs.declared.place.Block.{Block}
 use Rattle.message.specs.declared.state.OpenMessage.{OpenMessage}
 use Rattle.message.specs.declared.state.Message.{Message}
 use Rattle.message.specs.declared.state.Message.the-variants.{Open}
@@ -34,7 +35,7 @@ use Rattle.terminal_laws.proofs.OneBlock.Opened.{word-opens, openedAs}
 -- ---- from an open data receive on
 
 -- a stretch begins where the message is open
-begins : {Spent : ℕ → Type 0} (start : Card) (message : OpenMessage)
+begins : {Spent : Block → Type 0} (start : Card) (message : OpenMessage)
     → start .core .message ≡ Open message → Span Spent start message start
 unfolding withMessage further
 begins {Spent} start message is =
@@ -44,7 +45,7 @@ begins {Spent} start message is =
     (sym is)
     (is-open (message .stage) (message .second) (message .taken) (agree-refl (start .ram)))
 
-module _ {Spent : ℕ → Type 0} {before : Bool} (start start′ : Card) (message : OpenMessage)
+module _ {Spent : Block → Type 0} {before : Bool} (start start′ : Card) (message : OpenMessage)
     (related : Related Spent before start start′) (one two after : List Event) where
   pub one-block-related : start .core .message ≡ Open message
       → kindOf (message .command) ≡ Receive → Spent (message .block)

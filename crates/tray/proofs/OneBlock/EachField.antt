@@ -5,6 +5,7 @@ use mathlib.Core.Bool.{false}
 use mathlib.Core.List.{List, [], _∷_, _++_, append-assoc}
 use Prim.Native.Nat.{ℕ}
 use Rattle.bus.specs.declared.word.Word.{Word}
+use Rattle.card.specs.declared.place.Block.{Block}
 use Rattle.terminal.specs.State.{Card}
 use Rattle.terminal.specs.Event.{Event}
 use Rattle.terminal.specs.Machine.{step}
@@ -23,7 +24,7 @@ settled-sooner : {here there : Card} (told : Event) (now rest : List Event)
 settled-sooner told now rest (closed idle idle′) = closed idle idle′
 settled-sooner _ now rest (superseded command opens loose) = superseded command opens loose
 
-spared-sooner : (Spent : ℕ → Type 0) (now rest : List Event) (old : Card)
+spared-sooner : (Spent : Block → Type 0) (now rest : List Event) (old : Card)
     → Spared Spent (now ++ rest) old → Spared Spent now old
 unfolding Spared
 spared-sooner Spent [] rest old spared = tt

@@ -3,12 +3,13 @@
 use mathlib.Core.Bool.{Bool}
 use mathlib.Core.List.{List, [], _∷_}
 use Prim.Native.Nat.{ℕ}
+use Rattle.card.specs.declared.place.Block.{Block}
 use Rattle.terminal.specs.State.{Card}
 use Rattle.terminal.specs.Event.{Event, word}
 use Rattle.terminal.specs.Machine.{step, run}
 use Rattle.terminal_laws.specs.OneBlock.{Alike, Later, SameAfter, Settled, closed, superseded}
 
-module _ (Spent : ℕ → Type 0) where
+module _ (Spent : Block → Type 0) where
   -- cards that are alike before the later events are alike after them
   alike-after : (before : Bool) (later : List Event) (here there : Card)
       → Later Spent before later here there → Alike Spent here there

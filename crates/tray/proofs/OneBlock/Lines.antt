@@ -4,7 +4,8 @@ use mathlib.Core.Bool.{Bool}
 use mathlib.Core.List.{List, [], _∷_}
 use Prim.Native.Nat.{ℕ}
 use lib.ListN.{length, take, drop}
-use Rattle.card.specs.Memory.{wordAddress}
+use Rattle.card.specs.declared.place.Block.{Block}
+use Rattle.card.specs.Memory.{theCell, wordAddress}
 use Rattle.card.specs.Sent.{sentPart}
 use Rattle.message.specs.declared.state.Message.{Message}
 use Rattle.terminal.specs.declared.state.Reply.the-variants.{Silent, Status, Words, Last}
@@ -25,16 +26,18 @@ use Rattle.tray.specs.Run.{answerLine}
 use Rattle.tray.specs.OneBlock.{SameLine, same, status-but-error, last-but-error, LaterLines}
 
 -- the words sent, where the memories are as long as each other
-same-sent : (ram other : List ℕ) (block count : ℕ) → length ram ≡ length other
-    → take count (drop (wordAddress block 0) ram) ≡ take count (drop (wordAddress block 0) other)
+same-sent : (ram other : List ℕ) (block : Block) (count : ℕ) → length ram ≡ length other
+    → take count (drop (wordAddress block (theCell 0)) ram)
+    ≡ take count (drop (wordAddress block (theCell 0)) other)
     → sentPart ram block count ≡ sentPart other block count
 unfolding sentPart
 same-sent ram other block count long part = rw (long, part) refl
 
 -- the same answer, of two memories
 same-answer-line : (answer : Answer) (ram other : List ℕ) → length ram ≡ length other
-    → ((status block count : ℕ) → answer ≡ Replied (Words status block count)
-    → take count (drop (wordAddress block 0) ram) ≡ take count (drop (wordAddress block 0) other))
+    → ((status : ℕ) (block : Block) (count : ℕ) → answer ≡ Replied (Words status block count)
+    → take count (drop (wordAddress block (theCell 0)) ram)
+    ≡ take count (drop (wordAddress block (theCell 0)) other))
     → answerLine ram answer ≡ answerLine other answer
 same-answer-line (Replied Silent) ram other long words = refl
 same-answer-line (Replied (Status status)) ram other long words = refl
@@ -46,8 +49,9 @@ same-answer-line (QueueWord oldest) ram other long words = refl
 
 same-line : {before : Bool} {message : Message} {answer answer′ : Answer} (ram other : List ℕ)
     → length ram ≡ length other → SameAnswer before message answer answer′
-    → ((status block count : ℕ) → answer ≡ Replied (Words status block count)
-    → take count (drop (wordAddress block 0) ram) ≡ take count (drop (wordAddress block 0) other))
+    → ((status : ℕ) (block : Block) (count : ℕ) → answer ≡ Replied (Words status block count)
+    → take count (drop (wordAddress block (theCell 0)) ram)
+    ≡ take count (drop (wordAddress block (theCell 0)) other))
     → SameLine before message (answerLine ram answer) (answerLine other answer′)
 same-line {before} {message} {answer} ram other long same-answer words =
     subst (λ (line : List ℕ). SameLine before message (answerLine ram answer) line)
@@ -55,7 +59,7 @@ same-line {before} {message} {answer} ram other long same-answer words =
 same-line ram other long (status-answer asks but) words = status-but-error _ _ asks but
 same-line ram other long (last-answer asks but) words = last-but-error _ _ _ asks but
 
-pub later-lines : (Spent : ℕ → Type 0) (before : Bool) (later : List Event) (here there : Card)
+pub later-lines : (Spent : Block → Type 0) (before : Bool) (later : List Event) (here there : Card)
     → Later Spent before later here there → LaterLines before later here there
 unfolding Later LaterLines
 later-lines Spent before [] here there same-later = tt

@@ -5,6 +5,7 @@ use mathlib.Core.Bool.{Bool, true, false}
 use mathlib.Core.List.{List, [], _∷_, _++_, append-assoc}
 use Prim.Native.Nat.{ℕ}
 use lib.ListN.{replicate}
+use Rattle.card.specs.declared.place.Block.{Block}
 use Rattle.card.specs.Memory.{cardWords}
 use Rattle.bus.specs.declared.word.Word.{Word}
 use Rattle.terminal.specs.State.{Card}
@@ -79,7 +80,7 @@ module _ (ram : List ℕ) (station table flags : ℕ) (one two : List ℕ) (earl
       let at-two = run-of-append earlier (word heard ∷ told-two) start in
       let here : Card = run (upTo earlier heard told-one) start in
       let there : Card = run (upTo earlier heard told-two) start in
-      let Spent : ℕ → Type 0 = SpentBlock ram station table flags earlier heard in
+      let Spent : Block → Type 0 = SpentBlock ram station table flags earlier heard in
       let held : SameAfter Spent later here there =
       rw (at-one, at-two, run-of-append earlier (word heard ∷ []) start)
       (one-block met heard told-one told-two later broken) in

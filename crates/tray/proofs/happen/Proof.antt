@@ -10,14 +10,14 @@ enum-known-field c = search needs
 empty-ring-requires : tie.Need-empty-ring-requires
 empty-ring-requires c κs = search needs
 
+cast-number : tie.Need-cast-number
+cast-number c = search needs
+
 cast-at-setup : tie.Need-cast-at-setup
 cast-at-setup c = search needs
 
 cast-at-setup-2 : tie.Need-cast-at-setup-2
 cast-at-setup-2 c = search needs
-
-cast-at-setup-3 : tie.Need-cast-at-setup-3
-cast-at-setup-3 c = search needs
 
 at-setup-requires : tie.Need-at-setup-requires
 at-setup-requires c κs = search needs
@@ -58,8 +58,8 @@ silently-requires-2 c κs = search needs
 enum-known-field-5 : tie.Need-enum-known-field-5
 enum-known-field-5 c = search needs
 
-cast-move-table : tie.Need-cast-move-table
-cast-move-table c = search needs
+cast-number-2 : tie.Need-cast-number-2
+cast-number-2 c = search needs
 
 move-table-requires : tie.Need-move-table-requires
 move-table-requires c κs = search needs
@@ -115,9 +115,9 @@ happen-spec =
     (tie.spec
     enum-known-field
     empty-ring-requires
+    cast-number
     cast-at-setup
     cast-at-setup-2
-    cast-at-setup-3
     at-setup-requires
     silently-requires
     enum-known-field-2
@@ -131,7 +131,7 @@ happen-spec =
     write-words-requires
     silently-requires-2
     enum-known-field-5
-    cast-move-table
+    cast-number-2
     move-table-requires
     silently-requires-3
     enum-known-field-6

@@ -3,6 +3,7 @@ use mathlib.Core.Path.{_≡_}
 use mathlib.Core.Bool.{false}
 use mathlib.Core.List.{List}
 use Prim.Native.Nat.{ℕ, _*_, _≤_}
+use Rattle.card.specs.Memory.{theBlock}
 use Rattle.queue.specs.Queue.{ringOf}
 use Rattle.terminal.specs.State.{card, cardOf, coreAtSetup}
 use Rattle.recording.specs.declared.field.Field.{Field}
@@ -27,7 +28,7 @@ trayOf run places ram =
 unfoldable pub runAtStart : Run
 runAtStart =
     record {
-      held = record { core = coreAtSetup 31 0 0; ring = ringOf 0 0 false };
+      held = record { core = coreAtSetup 31 (theBlock 0) 0; ring = ringOf 0 0 false };
       begun = false;
       fields = 0;
       offset = 0;

@@ -6,7 +6,8 @@ use mathlib.Core.List.{List}
 use Prim.Native.Nat.{ℕ, zero, suc, _+_, _-_, _<_, _≤_}
 use lib.Dec.{leb, ltb}
 use lib.ListN.{length}
-use Rattle.card.specs.Memory.{withCell}
+use Rattle.card.specs.declared.place.Block.{Block}
+use Rattle.card.specs.Memory.{theCell, withCell}
 use Rattle.message.specs.declared.state.OpenMessage.{OpenMessage}
 use Rattle.message.specs.declared.state.Message.the-variants.{Open}
 use Rattle.message.specs.Message.{further}
@@ -41,16 +42,16 @@ rowWith next row =
       offset = counted (row .offset + 10);
     }
 
-abbrev pub wordStored : ℕ → ℕ → ℕ → Stored → Stored
+abbrev pub wordStored : Block → ℕ → ℕ → Stored → Stored
 wordStored block value next old =
-    stored (rowWith next (old .row)) (withCell (old .ram) block (old .row .taken) value)
+    stored (rowWith next (old .row)) (withCell (old .ram) block (theCell (old .row .taken)) value)
 
-abbrev pub rowFrom : Found → (Stored → Stored) → ℕ → Stored → Stored
+abbrev pub rowFrom : Found → (Stored → Stored) → Block → Stored → Stored
 rowFrom (Value value next) rest block old = rest (wordStored block value next old)
 rowFrom Nothing rest block old = old
 
 -- word after word, so many at the most
-unfoldable pub rowStored : ℕ → List ℕ → ℕ → ℕ → Stored → Stored
+unfoldable pub rowStored : ℕ → List ℕ → ℕ → Block → Stored → Stored
 rowStored zero window marks block old = old
 rowStored (suc more) window marks block old =
     rowFrom (wordFound window (old .row .at) marks) (rowStored more window marks block) block old

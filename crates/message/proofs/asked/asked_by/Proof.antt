@@ -22,8 +22,8 @@ with-block-requires c κs = search needs
 enum-told-2 : tie.Need-enum-told-2
 enum-told-2 c = search needs
 
-add-with-block : tie.Need-add-with-block
-add-with-block c = search needs
+add-number : tie.Need-add-number
+add-number c = search needs
 
 with-block-requires-2 : tie.Need-with-block-requires-2
 with-block-requires-2 c κs = search needs
@@ -110,7 +110,7 @@ asked-by-spec =
     enum-told
     with-block-requires
     enum-told-2
-    add-with-block
+    add-number
     with-block-requires-2
     enum-told-3
     without-block-requires
