@@ -10,7 +10,7 @@ use Prim.Native.Nat.{ℕ, suc, _+_, _/_, _%_, _≤_, _<_}
 use native.Mathlib.Decide.{decLt}
 use native.Mathlib.Omega.{arith}
 use lib.ListN.{length, getD, set, length-set}
-use lib.Seq.{sets, length-sets, getD-set-same, getD-set-other}
+use lib.Seq.{sets, length-sets, getD-set-other}
 use Rattle.card.specs.Memory.{
   blockCells,
   wordAddress,
@@ -23,6 +23,7 @@ use Rattle.card.proofs.MemoryLaws.{
   addresses-apart,
   length-with-cell,
   with-cell-inside,
+  cell-of-with-cell,
   with-cell-past,
 }
 
@@ -120,10 +121,9 @@ link-keeps block table cell =
 pub link-moves : (ram : List ℕ) (block table cell : ℕ) → cell < blockCells
     → wordAddress table cell < length ram
     → cellAt (withLink ram block table cell) table cell ≡ cellAt ram block 63
-unfolding cellAt withLink
+unfolding withLink
 link-moves ram block table cell inside on-card =
-    rw (with-cell-inside ram table cell (getD ram (wordAddress block 63) 0) inside)
-    (getD-set-same ram (wordAddress table cell) (getD ram (wordAddress block 63) 0) 0 on-card)
+    cell-of-with-cell ram table cell (cellAt ram block 63) inside on-card
 
 -- the host's words, from an address on
 pub words-keep : (address : ℕ) (words : List ℕ)

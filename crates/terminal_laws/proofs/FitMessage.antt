@@ -31,7 +31,7 @@ use Rattle.terminal_laws.proofs.FitParts.{addressed, isLegal, InStage, 
 -- ---- the message that a word opens
 
 -- a table word names one of 256 blocks, and without a block the number is 0
-fit-block : (has : Bool) (entry : ℕ) → cond has (blockOf entry) 0 ≤ 255
+pub fit-block : (has : Bool) (entry : ℕ) → cond has (blockOf entry) 0 ≤ 255
 fit-block true entry = omega arith
 fit-block false entry = omega arith
 

@@ -4,13 +4,14 @@
 use mathlib.Core.Path.{_≡_, refl, sym, ap, subst, _∙_}
 use mathlib.Core.Bool.{Bool, true, false, cond, not, _&&_}
 use mathlib.Core.List.{List, _∷_}
-use Prim.Native.Nat.{ℕ, _+_, _≤_, _<_}
+use Prim.Native.Nat.{ℕ, _≤_, _<_}
 use native.Mathlib.Omega.{arith}
 use lib.Dec.{eqb}
-use lib.ListN.{length, take, drop, length-take, length-drop}
-use lib.Seq.{ext-getD, getD-take, getD-drop}
+use lib.ListN.{length}
+use Rattle.rules.proofs.Clash.{clash}
 use Rattle.card.specs.Memory.{wordAddress, cellAt}
 use Rattle.card.specs.Sent.{sentPart}
+use Rattle.card.proofs.CellLaws.{part-of-same-cells}
 use Rattle.message.specs.declared.judge.SilenceAct.{SilenceAct}
 use Rattle.message.specs.declared.judge.SilenceAct.the-variants.{Ignore, AwaitStatus, Fault, End}
 use Rattle.message.specs.declared.state.OpenMessage.{OpenMessage}
@@ -38,24 +39,9 @@ use Rattle.terminal_laws.proofs.StepFrame.{silence-step, step-writes-on
 same-sent : (ram other : List ℕ) (block count : ℕ) → length ram ≡ length other
     → ((cell : ℕ) → cell < count → cellAt ram block cell ≡ cellAt other block cell)
     → sentPart ram block count ≡ sentPart other block count
-unfolding sentPart cellAt
+unfolding sentPart
 same-sent ram other block count long cells =
-    let start = wordAddress block 0 in
-    let part : take count (drop start ram) ≡ take count (drop start other) =
-    ext-getD 0 (take count (drop start ram)) (take count (drop start other))
-    (simp (length-take, length-drop, long))
-    (λ cell inside.
-    let below : cell < count = omega (arith, simp length-take at inside) in
-    let at : wordAddress block cell ≡ start + cell = omega arith in
-    rw (
-      getD-take count (drop start ram) cell 0 below,
-      getD-take count (drop start other) cell 0 below,
-      getD-drop start ram cell 0,
-      getD-drop start other cell 0,
-      ← at,
-    )
-    (cells cell below)) in
-    rw (long, part) refl
+    rw (long, part-of-same-cells ram other block count long cells) refl
 
 -- answers, with what holds where one sends words
 data Sends (cell : ℕ) : Answer → Type 0 where
@@ -72,11 +58,9 @@ sends-if true holds fails = holds refl
 sends-if false holds fails = fails refl
 
 sends-some : (busy : Bool) (sends : ℕ) → eqb (cond busy 0 sends) 0 ≡ false → sends ≡ 0 → ⊥
-sends-some true sends some none = let clash : _≡_ {A = ℕ} 0 1 = cc in omega arith
+sends-some true sends some none = clash (cc)
 sends-some false sends some none =
-    let some-of-none : eqb 0 0 ≡ false = rw none at some in
-    let clash : _≡_ {A = ℕ} 0 1 = cc in
-    omega arith
+    let some-of-none : eqb 0 0 ≡ false = rw none at some in clash (cc)
 
 module _ (message : OpenMessage) (time : ℕ) (old : Card) where
   high-done : (act : SilenceAct)

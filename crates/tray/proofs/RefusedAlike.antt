@@ -9,6 +9,7 @@ use native.Mathlib.Omega.{arith}
 use lib.Dec.{eqb, leb, ltb}
 use lib.ListN.{length}
 use borrow.Author.Tests.{eqb-true, eq-eqb, le-leb, lt-leb, lt-ltb, le-ltb, not-false}
+use Rattle.rules.proofs.Choices.{by-test, choice-under}
 use Rattle.card.specs.Memory.{cardWords}
 use Rattle.terminal.specs.State.{Card}
 use Rattle.actions.specs.declared.Done.{Done}
@@ -41,7 +42,6 @@ use Rattle.recording.specs.declared.reading.Reading.the-variants.{Taken, End, R
 use Rattle.recording.specs.Bytes.{bytesLeft, byteAt, wordAt, timeAt}
 use Rattle.recording.specs.Field.{isTag, lengthFits, fieldAt, valueRefusal}
 use Rattle.recording.specs.Reading.{readAt}
-use Rattle.recording.proofs.Choices.{by-test, choice-under}
 use Rattle.recording.proofs.FieldLaws.{size-of-write}
 use Rattle.recording.proofs.WordsLaws.{length-words-at}
 use Rattle.tray.specs.Run.{Tray}

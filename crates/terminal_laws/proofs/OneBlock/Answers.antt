@@ -5,6 +5,7 @@ use mathlib.Core.Bool.{Bool, true, false, cond, not, _&&_}
 use Prim.Native.Nat.{ℕ, _≤_}
 use native.Mathlib.Omega.{arith}
 use lib.Dec.{eqb}
+use Rattle.rules.proofs.Clash.{clash}
 use Rattle.bus.specs.declared.kind.Kind.{Kind}
 use Rattle.bus.specs.declared.kind.Kind.the-variants.{ModeStatus, ModeLast}
 use Rattle.bus.specs.Kind.{kindOf}
@@ -142,13 +143,13 @@ at-most-answer (flagsWrite flags) old = silent
 
 at-most-count : {answer : Answer} {status block count : ℕ} → AtMost32 answer
     → answer ≡ Replied (Words status block count) → count ≤ 32
-at-most-count silent is = let clash : _≡_ {A = ℕ} 0 1 = cc in omega arith
-at-most-count a-status is = let clash : _≡_ {A = ℕ} 0 1 = cc in omega arith
-at-most-count a-last is = let clash : _≡_ {A = ℕ} 0 1 = cc in omega arith
+at-most-count silent is = absurd (clash (cc))
+at-most-count a-status is = absurd (clash (cc))
+at-most-count a-last is = absurd (clash (cc))
 at-most-count {count = count} (some-words {count = sent} fits) is =
     let same : sent ≡ count = cc in
     omega arith
-at-most-count a-queue-word is = let clash : _≡_ {A = ℕ} 0 1 = cc in omega arith
+at-most-count a-queue-word is = absurd (clash (cc))
 
 pub sent-at-most : (event : Event) (old : Card) (status block count : ℕ)
     → step event old .answer ≡ Replied (Words status block count) → count ≤ 32

@@ -30,7 +30,13 @@ use Rattle.message.specs.Asked.{askedBy, askedOf}
 use Rattle.message.proofs.AskedBounds.{cell-in-table}
 use Rattle.terminal.specs.declared.state.Core.{Core}
 use Rattle.terminal.specs.State.{Card, card, withStatus, withSwitches, withLast, withMessage}
-use Rattle.terminal.specs.Opening.{openedMessage, openedStatus, openedCore, opening}
+use Rattle.terminal.specs.Opening.{
+  openedMessage,
+  openedStatus,
+  openedCore,
+  entryAt,
+  opening,
+}
 use Rattle.terminal.specs.Closing.{
   linked,
   closedRam,
@@ -148,7 +154,7 @@ module _ {Spent : ℕ → Type 0} {before : Bool} (core : Core) (status : ℕ)
   unfolding opening openedCore openedMessage withStatus withLast withMessage
   related-opened word unspent statuses =
       let asked = askedOf (word .value) in
-      let entry = cellAt ram (core .table) (asked .cell) in
+      let entry = entryAt word core ram in
       record {
         status = openedStatus asked entry word (withStatus status core);
         core =
