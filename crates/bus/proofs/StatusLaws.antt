@@ -1,5 +1,5 @@
--- The laws of a status word: it has its station's address, and setting or clearing the message error
--- bit is seen in that bit alone. Assumes nothing.
+-- The laws of a status word: it has its station's address, and setting the message error bit is
+-- seen in that bit alone. Assumes nothing.
 use mathlib.Core.Path.{_≡_}
 use mathlib.Core.Bool.{Bool, true, false}
 use Prim.Native.Nat.{ℕ, _≤_, _<_}

@@ -9,7 +9,7 @@ use native.Mathlib.Omega.{arith}
 use lib.ListN.{length, getD, set, length-set, List·getD-eq-default}
 use lib.Seq.{getD-set-same, set-out}
 use borrow.Author.Tests.{lt-ltb, le-ltb}
-use Rattle.card.specs.Memory.{blockCells, wordAddress, cellAt, withCell, withService}
+use Rattle.card.specs.Memory.{blockCells, wordAddress, cellAt, withCell}
 
 -- ---- addresses
 

@@ -53,8 +53,9 @@ openedCore message asked entry word core =
     (withLast (cond (asked .last) (core .last) (word .value))
     (withStatus (openedStatus asked entry word core) core))
 
--- ---- over the memory that an opening reads its chain's table word from
+-- ---- over memory
 
+-- the table word of the chain that a command goes by
 abbrev pub entryAt : Word → Core → List ℕ → ℕ
 entryAt word core ram = cellAt ram (core .table) (askedOf (word .value) .cell)
 

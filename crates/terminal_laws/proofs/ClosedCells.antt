@@ -1,7 +1,7 @@
 -- What a closing makes of memory, for memory of any length: whatever closes the message, memory is
 -- as `closedRam` has it, `closed-ram`, as long as it was, and the data cells of the message's block
 -- are kept, `closing-keeps-data`, unless the table is that block. Assumes nothing.
-use mathlib.Core.Path.{_≡_, refl, ap, _∙_}
+use mathlib.Core.Path.{_≡_, ap, _∙_}
 use mathlib.Core.Logic.{_≢_}
 use mathlib.Core.Bool.{true, false}
 use mathlib.Core.List.{List}

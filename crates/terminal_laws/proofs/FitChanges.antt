@@ -5,7 +5,6 @@ use mathlib.Core.Path.{_≡_, refl}
 use mathlib.Core.Bool.{Bool, true, false, cond, _&&_}
 use mathlib.Core.List.{List}
 use Prim.Native.Nat.{ℕ, _≤_}
-use Rattle.card.specs.Memory.{cellAt}
 use Rattle.queue.specs.declared.Queue.{Queue}
 use Rattle.queue.specs.Queue.{withJoined, fitQueue}
 use Rattle.queue.proofs.FitLaws.{join-keeps-fit}
@@ -16,7 +15,6 @@ use Rattle.message.specs.declared.state.Message.the-variants.{Idle, Open}
 use Rattle.terminal.specs.declared.state.Core.{Core}
 use Rattle.bus.specs.declared.word.Word.{Word}
 use Rattle.terminal.specs.State.{Card, card, withStatus, withLast, withSwitches, withMessage}
-use Rattle.message.specs.Asked.{askedOf}
 use Rattle.terminal.specs.Opening.{openedCore, entryAt, openedAs, opening}
 use Rattle.terminal.specs.Closing.{closedQueue, closing, faulted, ended}
 use Rattle.message.specs.Fitness.{fitMessage}

@@ -8,6 +8,7 @@ use Prim.Native.Nat.{ℕ, _≤_, _<_}
 use native.Mathlib.Omega.{arith}
 use lib.Dec.{eqb}
 use lib.ListN.{length}
+use Rattle.rules.proofs.Choices.{by-test}
 use Rattle.rules.proofs.Clash.{clash}
 use Rattle.card.specs.Memory.{wordAddress, cellAt}
 use Rattle.card.specs.Sent.{sentPart}
@@ -51,18 +52,15 @@ data Sends (cell : ℕ) : Answer → Type 0 where
   some-words : {status block count : ℕ} → 32 ≤ cell
       → Sends cell (Replied (Words status block count))
 
-sends-if : {cell : ℕ} {reply other : Reply} (test : Bool)
-    → (test ≡ true → Sends cell (Replied reply)) → (test ≡ false → Sends cell (Replied other))
-    → Sends cell (Replied (cond test reply other))
-sends-if true holds fails = holds refl
-sends-if false holds fails = fails refl
-
 sends-some : (busy : Bool) (sends : ℕ) → eqb (cond busy 0 sends) 0 ≡ false → sends ≡ 0 → ⊥
 sends-some true sends some none = clash (cc)
 sends-some false sends some none =
     let some-of-none : eqb 0 0 ≡ false = rw none at some in clash (cc)
 
 module _ (message : OpenMessage) (time : ℕ) (old : Card) where
+  abbrev Given : Reply → Type 0
+  Given reply = Sends (asks message .cell) (Replied reply)
+
   high-done : (act : SilenceAct)
       → Sends (asks message .cell)
       (silenceDone act (asks message) message time old .answer)
@@ -72,9 +70,9 @@ module _ (message : OpenMessage) (time : ℕ) (old : Card) where
   high-done (Fault code) = silent
   high-done End =
       let asked = asks message in
-      sends-if (not (replies (old .core) message)) (λ shut. silent) (λ given.
-      sends-if (asked .last) (λ last. a-last) (λ other.
-      sends-if (eqb (unlessBusy asked message (asked .sends)) 0) (λ alone. a-status) (λ some.
+      by-test Given (not (replies (old .core) message)) (λ shut. silent) (λ given.
+      by-test Given (asked .last) (λ last. a-last) (λ other.
+      by-test Given (eqb (unlessBusy asked message (asked .sends)) 0) (λ alone. a-status) (λ some.
       some-words
       (sends-by-high-cell (message .command)
       (sends-some (message .busy && asked .yields) (asked .sends) some)))))

@@ -1,9 +1,9 @@
 -- A card that is whole and fit stays so, `whole-and-fit-stays`, and at rest while nothing opens,
 -- `rest-stays`; the blocks of its messages lie in its memory. Assumes nothing.
-use mathlib.Core.Path.{_≡_, refl, _∙_}
+use mathlib.Core.Path.{_≡_, _∙_}
 use mathlib.Core.Bool.{Bool, true, false, cond}
 use mathlib.Core.List.{List, [], _∷_}
-use Prim.Native.Nat.{ℕ, _≤_, _<_}
+use Prim.Native.Nat.{_≤_, _<_}
 use native.Mathlib.Omega.{arith}
 use lib.ListN.{length}
 use Rattle.rules.proofs.Clash.{clash}
@@ -12,7 +12,7 @@ use Rattle.card.specs.Memory.{blockCells, wordAddress}
 use Rattle.message.specs.declared.state.OpenMessage.{OpenMessage}
 use Rattle.message.specs.declared.state.Message.{Message}
 use Rattle.message.specs.declared.state.Message.the-variants.{Idle, Open}
-use Rattle.message.specs.Asked.{askedOf, asks}
+use Rattle.message.specs.Asked.{askedOf}
 use Rattle.message.specs.Message.{movedMessage}
 use Rattle.message.specs.Words.{ownCommand}
 use Rattle.message.proofs.AskedBounds.{cell-in-table}

@@ -4,6 +4,7 @@ use mathlib.Core.Path.{_≡_, refl}
 use mathlib.Core.Logic.{_≢_}
 use mathlib.Core.Bool.{Bool, true, false, cond, not, Bool·beq, or-true}
 use Prim.Native.Nat.{ℕ}
+use Rattle.rules.proofs.Choices.{by-test}
 use Rattle.rules.proofs.Clash.{clash}
 use Rattle.message.specs.declared.asked.Asked.{Asked}
 use Rattle.message.specs.declared.judge.WordAct.{WordAct}
@@ -64,8 +65,7 @@ data OpensNothing : WordAct → Type 0 where
 no-opening-if : {test : Bool} {act other : WordAct}
     → (test ≡ true → OpensNothing act) → (test ≡ false → OpensNothing other)
     → OpensNothing (cond test act other)
-no-opening-if {test = true} holds fails = holds refl
-no-opening-if {test = false} holds fails = fails refl
+no-opening-if {test} holds fails = by-test OpensNothing test holds fails
 
 ruleset no-opening = (
   no-opening-ignore,

@@ -5,6 +5,7 @@ use mathlib.Core.Bool.{Bool, true, false, cond, not, _&&_}
 use Prim.Native.Nat.{ℕ, _≤_}
 use native.Mathlib.Omega.{arith}
 use lib.Dec.{eqb}
+use Rattle.rules.proofs.Choices.{by-test}
 use Rattle.rules.proofs.Clash.{clash}
 use Rattle.bus.specs.declared.kind.Kind.{Kind}
 use Rattle.bus.specs.declared.kind.Kind.the-variants.{ModeStatus, ModeLast}
@@ -107,11 +108,8 @@ data AtMost32 : Answer → Type 0 where
   some-words : {status block count : ℕ} → count ≤ 32 → AtMost32 (Replied (Words status block count))
   a-queue-word : {oldest : ℕ} → AtMost32 (QueueWord oldest)
 
-at-most-if : (test : Bool) {reply other : Reply}
-    → AtMost32 (Replied reply) → AtMost32 (Replied other)
-    → AtMost32 (Replied (cond test reply other))
-at-most-if true first second = first
-at-most-if false first second = second
+abbrev Given : Reply → Type 0
+Given reply = AtMost32 (Replied reply)
 
 at-most-done : (act : SilenceAct) (message : OpenMessage) (time : ℕ) (old : Card)
     → AtMost32 (silenceDone act (asks message) message time old .answer)
@@ -121,10 +119,10 @@ at-most-done AwaitStatus message time old = silent
 at-most-done (Fault code) message time old = silent
 at-most-done End message time old =
     let asked = asks message in
-    at-most-if (not (replies (old .core) message)) silent
-    (at-most-if (asked .last) a-last
-    (at-most-if (eqb (unlessBusy asked message (asked .sends)) 0) a-status
-    (some-words (sends-at-most (message .command)))))
+    by-test Given (not (replies (old .core) message)) (λ _. silent) (λ _.
+    by-test Given (asked .last) (λ _. a-last) (λ _.
+    by-test Given (eqb (unlessBusy asked message (asked .sends)) 0) (λ _. a-status) (λ _.
+    some-words (sends-at-most (message .command)))))
 
 at-most-silence : (message : Message) (line : Bool) (time : ℕ) (old : Card)
     → AtMost32 (silenceMet message line time old .answer)

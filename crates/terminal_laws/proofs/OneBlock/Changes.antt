@@ -18,7 +18,7 @@ use Rattle.bus.specs.declared.kind.Kind.the-variants.{
 }
 use Rattle.bus.specs.Kind.{kindOf}
 use Rattle.bus.specs.Status.{withError}
-use Rattle.card.specs.Memory.{cellAt, withService}
+use Rattle.card.specs.Memory.{withService}
 use Rattle.card.specs.Time.{ticksOf}
 use Rattle.queue.specs.declared.Queue.{Queue}
 use Rattle.message.specs.declared.asked.Asked.{Asked}
