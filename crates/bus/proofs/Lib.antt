@@ -2,7 +2,7 @@
 --     CommandLaws   how many words a command has
 --     ModeLaws      the mode table, told by ranges of codes
 --     KindLaws      which kind a command is, by the answers to its tests
---     StatusLaws    the message error bit
+--     StatusLaws    the address of a status word, and its message error bit
 --     Determined    each public contract allows one outcome alone
 --     Examples      the definitions at work, by computation
 pub mod CommandLaws

@@ -9,8 +9,8 @@ use mathlib.Core.List.{List, [], _∷_}
 use Prim.Native.Nat.{ℕ, suc, _+_, _/_, _%_, _≤_, _<_}
 use native.Mathlib.Decide.{decLt}
 use native.Mathlib.Omega.{arith}
-use lib.ListN.{length, getD, set, length-set}
-use lib.Seq.{sets, length-sets, getD-set-same, getD-set-other}
+use lib.ListN.{length, getD, set}
+use lib.Seq.{sets, length-sets, getD-set-other}
 use Rattle.card.specs.declared.place.Block.{Block}
 use Rattle.card.specs.declared.place.Cell.{Cell}
 use Rattle.card.specs.Memory.{
@@ -26,6 +26,7 @@ use Rattle.card.proofs.MemoryLaws.{
   addresses-apart,
   length-with-cell,
   with-cell-inside,
+  cell-of-with-cell,
   with-cell-past,
 }
 
@@ -123,10 +124,9 @@ link-keeps block table cell =
 pub link-moves : (ram : List ℕ) (block table : Block) (cell : Cell) → cell .0 < blockCells
     → wordAddress table cell < length ram
     → cellAt (withLink ram block table cell) table cell ≡ cellAt ram block (theCell 63)
-unfolding cellAt withLink
+unfolding withLink
 link-moves ram block table cell inside on-card =
-    rw (with-cell-inside ram table cell (getD ram (wordAddress block (theCell 63)) 0) inside)
-    (getD-set-same ram (wordAddress table cell) (getD ram (wordAddress block (theCell 63)) 0) 0 on-card)
+    cell-of-with-cell ram table cell (cellAt ram block (theCell 63)) inside on-card
 
 -- the host's words, from an address on
 pub words-keep : (address : ℕ) (words : List ℕ)

@@ -7,7 +7,7 @@ use Prim.Native.Nat.{ℕ, _≤_, _<_}
 use native.Mathlib.Decide.{decLt}
 use native.Mathlib.Omega.{arith}
 use lib.ListN.{length, getD, set, length-set, List·getD-eq-default}
-use lib.Seq.{set-out}
+use lib.Seq.{getD-set-same, set-out}
 use borrow.Author.Tests.{lt-ltb, le-ltb}
 use Rattle.card.specs.declared.place.Block.{Block}
 use Rattle.card.specs.declared.place.Cell.{Cell}
@@ -58,6 +58,13 @@ module _ (ram : List ℕ) (block : Block) (cell : Cell) (word : ℕ) where
       → withCell ram block cell word ≡ set ram (wordAddress block cell) word
   unfolding withCell
   with-cell-inside inside = rw (lt-ltb (cell .0) blockCells inside)
+
+  -- the word stands there
+  pub cell-of-with-cell : cell .0 < blockCells → wordAddress block cell < length ram
+      → cellAt (withCell ram block cell word) block cell ≡ word
+  unfolding cellAt
+  cell-of-with-cell inside in-memory =
+      rw (with-cell-inside inside) (getD-set-same ram (wordAddress block cell) word 0 in-memory)
 
   -- there is no such cell in a block
   pub with-cell-past : blockCells ≤ cell .0 → ram ≡ withCell ram block cell word

@@ -7,6 +7,7 @@ use native.Mathlib.Omega.{arith}
 use lib.Dec.{eqb, leb, ltb}
 use lib.ListN.{length}
 use borrow.Author.Tests.{eqb-true, leb-true, lt-ltb, ne-eqb}
+use Rattle.rules.proofs.Choices.{by-test}
 use Rattle.rules.proofs.Halves.{first-of-both, second-of-both}
 use Rattle.recording.specs.declared.field.Field.{Field}
 use Rattle.recording.specs.declared.field.Field.the-variants.{
@@ -19,7 +20,6 @@ use Rattle.recording.specs.declared.field.Field.the-variants.{
   Flags,
 }
 use Rattle.recording.specs.Field.{lengthFits, valueRefusal, ValueThere}
-use Rattle.recording.proofs.Choices.{by-test}
 
 -- ---- a value that is there has the bytes of its tag
 

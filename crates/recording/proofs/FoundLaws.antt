@@ -16,6 +16,8 @@ use borrow.Author.Tests.{
   not-true,
   not-false,
 }
+use Rattle.rules.proofs.Choices.{by-test}
+use Rattle.rules.proofs.Halves.{first-of-both, second-of-both}
 use Rattle.recording.specs.declared.field.Field.the-variants.{Word}
 use Rattle.recording.specs.declared.words.Found.{Found}
 use Rattle.recording.specs.declared.words.Found.the-variants.{Value, Nothing}
@@ -24,7 +26,6 @@ use Rattle.recording.specs.Bytes.{bytesLeft, byteAt, wordAt, timeAt}
 use Rattle.recording.specs.Field.{lengthFits, fieldAt}
 use Rattle.recording.specs.Reading.{readAt}
 use Rattle.recording.specs.AsCoded.Found.{startsWord, wordFound}
-use Rattle.recording.proofs.Choices.{by-test, both-of}
 
 -- ---- as the code looks
 
@@ -101,16 +102,19 @@ module _ (bytes : List ℕ) (place marks : ℕ) (few : marks ≤ 15) where
       go : leb 10 (bytesLeft bytes place) && (tag && high && low && marked) ≡ true
           → Read (Value (wordAt bytes (place + 4)) (place + 10))
       go is =
-          let first = both-of (leb 10 (bytesLeft bytes place)) (tag && high && low && marked) is in
-          let second = both-of (tag && high && low) marked (first .1) in
-          let third = both-of (tag && high) low (second .0) in
-          let fourth = both-of tag high (third .0) in (
+          let long = leb 10 (bytesLeft bytes place) in
+          let to-marked = second-of-both long (tag && high && low && marked) is in
+          let to-low = first-of-both (tag && high && low) marked to-marked in
+          let to-high = first-of-both (tag && high) low to-low in (
             refl,
-            starts-is-read (leb-true 10 (bytesLeft bytes place) (first .0))
-                (eqb-true (byteAt bytes place) 2 (fourth .0))
-                (eqb-true (byteAt bytes (place + 1)) 0 (fourth .1))
-                (eqb-true (byteAt bytes (place + 2)) 7 (third .1))
-                (eqb-true (byteAt bytes (place + 3)) marks (second .1)),
+            starts-is-read
+                (leb-true 10 (bytesLeft bytes place)
+                (first-of-both long (tag && high && low && marked) is))
+                (eqb-true (byteAt bytes place) 2 (first-of-both tag high to-high))
+                (eqb-true (byteAt bytes (place + 1)) 0 (second-of-both tag high to-high))
+                (eqb-true (byteAt bytes (place + 2)) 7 (second-of-both (tag && high) low to-low))
+                (eqb-true (byteAt bytes (place + 3)) marks
+                (second-of-both (tag && high && low) marked to-marked)),
           )
 
   module _ {value next : ℕ} (is : wordFound bytes place marks ≡ Value value next) where

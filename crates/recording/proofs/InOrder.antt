@@ -7,6 +7,7 @@ use Prim.Native.Nat.{ℕ, suc, _+_, _-_, _*_, _/_, _≤_}
 use native.Mathlib.Omega.{arith}
 use lib.Dec.{eqb, ltb}
 use borrow.Author.Tests.{eqb-true, ltb-false}
+use Rattle.rules.proofs.Choices.{by-test}
 use Rattle.recording.specs.declared.field.Field.{Field}
 use Rattle.recording.specs.declared.field.Field.the-variants.{
   Setup,
@@ -21,7 +22,6 @@ use Rattle.recording.specs.declared.reading.Reading.the-variants.{Taken}
 use Rattle.recording.specs.Bytes.{byteAt, wordAt}
 use Rattle.recording.specs.Field.{lengthFits, fieldAt, valueRefusal}
 use Rattle.recording.specs.Reading.{readAt}
-use Rattle.recording.proofs.Choices.{by-test}
 use Rattle.recording.proofs.FieldLaws.{WriteSize, size-of-write}
 use Rattle.recording.proofs.TakenLaws.{TakenAt, taken-tells}
 

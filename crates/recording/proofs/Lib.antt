@@ -1,6 +1,5 @@
 -- The mathematics of recordings. Read `Theorems`: what is proved.
 --     Theorems       the statements, by name
---     Choices        a claim of a choice, by its test
 --     FieldLaws      the table of tags on each way that the code takes
 --     ReadingLaws    the reader's order on each way that the code takes
 --     WordsLaws      the words of a host write, one by one
@@ -14,7 +13,6 @@
 --     Determined     each public contract allows one outcome alone
 --     Examples       the definitions at work, by computation
 mod Theorems
-pub mod Choices
 pub mod FieldLaws
 pub mod ReadingLaws
 pub mod WordsLaws

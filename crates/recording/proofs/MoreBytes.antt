@@ -17,6 +17,7 @@ use borrow.Author.Tests.{
   le-ltb,
   not-false,
 }
+use Rattle.rules.proofs.Choices.{by-test, same-choice}
 use Rattle.recording.specs.declared.field.Field.{Field}
 use Rattle.recording.specs.declared.reading.Reading.{Reading}
 use Rattle.recording.specs.declared.reading.Reading.the-variants.{Taken, End, Refused}
@@ -24,7 +25,6 @@ use Rattle.recording.specs.Bytes.{bytesLeft, byteAt, wordAt, timeAt, wor
 use Rattle.recording.specs.Field.{isTag, lengthFits, fieldAt, valueRefusal, ValueThere}
 use Rattle.recording.specs.Reading.{readAt}
 use Rattle.recording.specs.AsCoded.Pieces.{isSettled}
-use Rattle.recording.proofs.Choices.{by-test, same-choice}
 use Rattle.recording.proofs.FieldLaws.{
   by-refusal,
   size-at-most,

@@ -7,13 +7,13 @@ use Prim.Native.Nat.{ℕ, _+_, _-_, _/_, _<_}
 use native.Mathlib.Omega.{arith}
 use lib.Dec.{eqb, ltb}
 use borrow.Author.Tests.{le-ltb}
+use Rattle.rules.proofs.Choices.{by-test}
 use Rattle.recording.specs.declared.field.Field.{Field}
 use Rattle.recording.specs.declared.reading.Reading.{Reading}
 use Rattle.recording.specs.declared.reading.Reading.the-variants.{Taken, End, Refused}
 use Rattle.recording.specs.Bytes.{bytesLeft, byteAt, wordAt}
 use Rattle.recording.specs.Field.{isTag, lengthFits, fieldAt, valueRefusal}
 use Rattle.recording.specs.Reading.{readAt}
-use Rattle.recording.proofs.Choices.{by-test}
 
 -- the number is another than 3
 abbrev Other : ℕ → Type 0

@@ -10,6 +10,7 @@ use native.Mathlib.Omega.{arith}
 use lib.Dec.{eqb, ltb}
 use lib.ListN.{length, drop, length-drop}
 use lib.Seq.{getD-drop, drop-append-seam}
+use Rattle.rules.proofs.Choices.{choice-under}
 use Rattle.recording.specs.declared.field.Field.{Field}
 use Rattle.recording.specs.declared.field.Field.the-variants.{
   Setup,
@@ -25,7 +26,6 @@ use Rattle.recording.specs.Bytes.{bytesLeft, byteAt, wordAt, timeAt, wor
 use Rattle.recording.specs.Field.{isTag, lengthFits, fieldAt, valueRefusal}
 use Rattle.recording.specs.Reading.{readAt}
 use Rattle.recording.specs.AsCoded.Pieces.{shiftedField, shifted}
-use Rattle.recording.proofs.Choices.{choice-under}
 
 -- the shift is seen in no refusal
 refusal-of-shifted : (start : ℕ) (field : Field)

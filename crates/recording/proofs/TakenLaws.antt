@@ -10,6 +10,7 @@ use native.Mathlib.Omega.{arith}
 use lib.Dec.{eqb, ltb}
 use lib.ListN.{length}
 use borrow.Author.Tests.{eqb-true, eqb-false, ltb-false, not-false}
+use Rattle.rules.proofs.Choices.{by-test}
 use Rattle.recording.specs.declared.field.Field.{Field}
 use Rattle.recording.specs.declared.reading.Reading.{Reading}
 use Rattle.recording.specs.declared.reading.Reading.the-variants.{Taken, End, Refused}
@@ -23,7 +24,6 @@ use Rattle.recording.specs.Field.{
   ValueThere,
 }
 use Rattle.recording.specs.Reading.{readAt}
-use Rattle.recording.proofs.Choices.{by-test}
 use Rattle.recording.proofs.FieldLaws.{by-refusal, size-at-most}
 
 -- ---- what lies behind each answer

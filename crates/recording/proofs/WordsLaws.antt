@@ -10,8 +10,8 @@ use lib.Dec.{leb}
 use lib.ListN.{length, set, take, drop}
 use lib.Seq.{sets, sets-eq, length-sets, take-at}
 use borrow.Author.Tests.{le-leb, lt-leb}
+use Rattle.rules.proofs.Choices.{by-test}
 use Rattle.recording.specs.Bytes.{bytesLeft, wordAt, wordsAt, withWords}
-use Rattle.recording.proofs.Choices.{by-test}
 
 -- ---- the loop: the words that are left take what is there to what is wanted
 

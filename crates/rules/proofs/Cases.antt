@@ -1,8 +1,8 @@
 -- Which way a definition that goes by tests takes, found by `search` in the facts that the code's
 -- own tests left: `search (needs, cases)`, or `search cases depth 9` where there are several tests.
 -- Assumes nothing.
-use mathlib.Core.Path.{_≡_}
-use mathlib.Core.Bool.{Bool, true, false, cond, not, _&&_, _||_}
+use mathlib.Core.Path.{_≡_, refl}
+use mathlib.Core.Bool.{Bool, true, false, cond, not, _&&_, _||_, Bool·beq}
 use borrow.Author.Tests.{eq-eqb, ne-eqb, le-leb, lt-leb, lt-ltb, le-ltb, not-true, not-false}
 
 -- ---- a choice
@@ -48,6 +48,12 @@ not-fails test p = rw p
 
 -- `if !test { return; }` in the code, or `not test` in the definition
 pub ruleset turned = (not-true, not-false, not-holds, not-fails)
+
+-- ---- a test of a value against itself
+
+pub beq-same : (value : Bool) → Bool·beq value value ≡ true
+beq-same true = refl
+beq-same false = refl
 
 -- ---- a test that a call answered
 

@@ -8,6 +8,7 @@ use mathlib.Core.List.{List, [], _∷_}
 use Prim.Native.Nat.{ℕ, _%_, _<_}
 use native.Mathlib.Omega.{arith}
 use lib.ListN.{length, replicate}
+use Rattle.rules.proofs.Clash.{clash}
 use Rattle.card.specs.Memory.{blockCells, cellAt}
 use Rattle.card.specs.TableWord.{blockOf}
 use Rattle.message.specs.declared.state.Second.the-variants.{Absent}
@@ -146,7 +147,7 @@ by-table-cell-3 : (old : Card) → step (word again) old .opened ≡ afresh
 unfolding runs
 by-table-cell-3 old opens same-table taken =
     record {
-      opens = λ opens-none. let clash : _≡_ {A = ℕ} 0 1 = cc in omega arith;
+      opens = λ opens-none. clash (cc);
       has-block = refl;
       same-cell = refl;
       same-table = same-table;

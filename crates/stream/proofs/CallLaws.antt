@@ -1,13 +1,14 @@
 -- A call of the program, and what it leaves to do. Assumes nothing.
 use mathlib.Core.Path.{_≡_, refl, sym, ap, subst, _∙_}
 use mathlib.Core.Logic.{_≢_}
-use mathlib.Core.Bool.{Bool, true, false}
+use mathlib.Core.Bool.{Bool, true, false, true≢false}
 use mathlib.Core.List.{List}
 use Prim.Native.Nat.{ℕ, _+_, _-_, _≤_, _<_}
 use native.Mathlib.Omega.{arith}
 use lib.ListN.{length, take, drop}
 use lib.Seq.{sets, slice, sets-eq, length-sets, length-slice, length-take-le, take-at}
 use borrow.Author.Tests.{le-leb}
+use Rattle.rules.proofs.Clash.{clash}
 use Rattle.lines.specs.Written.{Put, put}
 use Rattle.tray.specs.declared.Ran.{Ran}
 use Rattle.tray.specs.declared.Run.{Run}
@@ -87,8 +88,7 @@ call-steps old places ram window have ended out ran places′ ram′ out′ wind
           let goes : call .stop ≡ Going = sym is-stop ∙ same in
           let stopped : isGoing (call .stop) ≡ false =
           call-stops (take have window) ended (trayOf old places ram) out (omega (arith, long)) in
-          let wrong : true ≡ false = rw goes at stopped in
-          let z : _≡_ {A = ℕ} 0 1 = cc in omega arith;
+          true≢false (rw goes at stopped);
       took =
           λ same.
           full-after-a-field (take have window) ended (trayOf old places ram) out
@@ -142,7 +142,7 @@ room-there have window stop there = there .room
 
 -- where there is nothing to write no write fails
 pub no-failure : (lines : ℕ) → false ≡ true → lines ≢ 0
-no-failure lines is = absurd (let z : _≡_ {A = ℕ} 0 1 = cc in omega arith)
+no-failure lines is = absurd (clash (cc))
 
 -- ---- what it leaves to do
 

@@ -6,6 +6,7 @@ use mathlib.Core.List.{List, []}
 use Prim.Native.Nat.{ℕ, suc, _+_, _-_, _≤_, _<_}
 use native.Mathlib.Omega.{arith}
 use lib.ListN.{length, take, replicate}
+use Rattle.rules.proofs.Clash.{clash}
 use Rattle.card.specs.Memory.{cardWords}
 use Rattle.queue.specs.Queue.{queuePlaces}
 use Rattle.tray.specs.declared.Run.{Run}
@@ -54,7 +55,7 @@ not-over : {start new : Tray} {turns : ℕ} {window : List ℕ} {ended stopped w
     → Pumped start turns new window ended stopped whole → stopped ≡ false
     → Reached start turns ended new window
 not-over (going so-far) is = so-far
-not-over (over came) is = absurd (let z : _≡_ {A = ℕ} 0 1 = cc in omega arith)
+not-over (over came) is = absurd (clash (cc))
 
 pub pumping-on : (pump next : Pump) (places ram window out places′ ram′ window′ out′ : List ℕ)
     (left : ℕ)
@@ -91,7 +92,7 @@ module _ (pump : Pump) (places ram window out : List ℕ) (left : ℕ) (done : D
     came : {new : Tray} {turns : ℕ} {rest : List ℕ} {ended stopped whole : Bool}
         → Pumped trayAtStart turns new rest ended stopped whole → stopped ≡ true
         → Came trayAtStart new whole
-    came (going reached) same = absurd (let z : _≡_ {A = ℕ} 0 1 = cc in omega arith)
+    came (going reached) same = absurd (clash (cc))
     came (over ended) same = ended
 
   -- no turn is left

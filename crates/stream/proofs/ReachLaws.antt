@@ -9,6 +9,7 @@ use Prim.Native.Nat.{ℕ, _<_}
 use native.Mathlib.Omega.{arith}
 use lib.ListN.{replicate}
 use lib.Seq.{drop-nil}
+use Rattle.rules.proofs.Clash.{clash}
 use Rattle.recording.specs.declared.reading.Reading.{Reading}
 use Rattle.recording.specs.declared.reading.Reading.the-variants.{Taken, End, Refused}
 use Rattle.recording.specs.Reading.{readAt}
@@ -63,12 +64,10 @@ module _ (start : Tray) where
       go : (old : Passed) → Idle old → (reading : Reading)
           → readAt [] (old .at) (old .tray .begun) ≡ reading → Idle (passing reading [] false old)
       go old so-far (Taken field next) is =
-          absurd (let z : _≡_ {A = ℕ} 0 1 = cc (nothing-read (old .at) (old .tray .begun)) in
-          omega arith)
+          absurd (clash (cc (nothing-read (old .at) (old .tray .begun))))
       go old so-far End is = record { untouched = so-far .untouched; not-over = hungry-over }
       go old so-far (Refused number place) is =
-          absurd (let z : _≡_ {A = ℕ} 0 1 = cc (nothing-read (old .at) (old .tray .begun)) in
-          omega arith)
+          absurd (clash (cc (nothing-read (old .at) (old .tray .begun))))
 
   -- it needs bytes
   waits : windowRun start [] false room .stop ≡ Hungry
@@ -79,7 +78,7 @@ module _ (start : Tray) where
     where
       go : (stop : Stop) → windowRun start [] false room .stop ≡ stop → isGoing stop ≡ false
           → (stop ≡ Full → 0 < windowRun start [] false room .at) → stop ≢ Over → stop ≡ Hungry
-      go Going is stops took other = absurd (let z : _≡_ {A = ℕ} 0 1 = cc in omega arith)
+      go Going is stops took other = absurd (clash (cc))
       go Hungry is stops took other = refl
       go Full is stops took other =
           absurd (omega (arith, took refl, call-within [] false start room))

@@ -4,17 +4,18 @@ use mathlib.Core.Path.{_≡_, refl, sym, ap, subst, _∙_}
 use mathlib.Core.Logic.{_≢_}
 use mathlib.Core.Bool.{Bool, true, false, not, _&&_}
 use mathlib.Core.List.{List}
-use Prim.Native.Nat.{ℕ, _+_, _≤_, _<_}
+use Prim.Native.Nat.{ℕ, _+_, _<_}
 use native.Mathlib.Decide.{decLt}
 use native.Mathlib.Omega.{arith}
 use lib.Dec.{eqb}
 use lib.ListN.{length}
 use borrow.Author.Tests.{eqb-true}
+use Rattle.rules.proofs.Clash.{clash}
+use Rattle.rules.proofs.Halves.{second-of-both}
 use Rattle.recording.specs.declared.reading.Reading.{Reading}
 use Rattle.recording.specs.declared.reading.Reading.the-variants.{Taken, End, Refused}
 use Rattle.recording.specs.Reading.{readAt}
 use Rattle.recording.specs.AsCoded.Pieces.{isSettled}
-use Rattle.recording.proofs.Choices.{both-of}
 use Rattle.recording.proofs.TakenLaws.{isReaderNumber, refused-names-place}
 use Rattle.recording.proofs.MoreBytes.{settled-by-133}
 use Rattle.tray.specs.declared.Stop.the-variants.{Going, Hungry, Full, Over}
@@ -34,19 +35,19 @@ use Rattle.tray.proofs.EndLaws.{turns-keep, by-turn}
 -- ---- reasons differ
 
 pub going-over : Going ≢ Over
-going-over same = let z : _≡_ {A = ℕ} 0 1 = cc in omega arith
+going-over same = clash (cc)
 
 pub going-hungry : Going ≢ Hungry
-going-hungry same = let z : _≡_ {A = ℕ} 0 1 = cc in omega arith
+going-hungry same = clash (cc)
 
 pub full-over : Full ≢ Over
-full-over same = let z : _≡_ {A = ℕ} 0 1 = cc in omega arith
+full-over same = clash (cc)
 
 pub full-hungry : Full ≢ Hungry
-full-hungry same = let z : _≡_ {A = ℕ} 0 1 = cc in omega arith
+full-hungry same = clash (cc)
 
 pub hungry-over : Hungry ≢ Over
-hungry-over same = let z : _≡_ {A = ℕ} 0 1 = cc in omega arith
+hungry-over same = clash (cc)
 
 -- ---- a reading that waits for bytes
 
@@ -59,7 +60,7 @@ few-left window place begun waits =
       | no many ↦
           let settled : isSettled (readAt window place begun) ≡ true =
           settled-by-133 window place begun (omega arith) in
-          absurd (let z : _≡_ {A = ℕ} 0 1 = cc in omega arith)
+          absurd (clash (cc))
     ]
 
 -- no refusal has number 0, so one that may go on has number 5
@@ -70,7 +71,7 @@ number-waits number told may = go (eqb number 0) refl where
   go true is =
       let wrong : false ≡ true =
       subst (λ (any : ℕ). isReaderNumber any ≡ true) (eqb-true number 0 is) told in
-      absurd (let z : _≡_ {A = ℕ} 0 1 = cc in omega arith)
+      absurd (clash (cc))
   go false is = rw is at may
 
 stops-waiting : (number : ℕ) (last : Bool) (old : Passed) → stopsAt number last old .stop ≡ Hungry
@@ -78,7 +79,7 @@ stops-waiting : (number : ℕ) (last : Bool) (old : Passed) → stopsAt number l
 unfolding stoppedAt
 stops-waiting number last old waits = go (not last && mayGoOn number) refl where
   go : (test : Bool) → (not last && mayGoOn number) ≡ test → mayGoOn number ≡ true
-  go true is = both-of (not last) (mayGoOn number) is .1
+  go true is = second-of-both (not last) (mayGoOn number) is
   go false is = absurd (hungry-over (sym (rw is at waits)))
 
 -- ---- a call that waits

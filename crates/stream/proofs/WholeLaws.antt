@@ -6,6 +6,7 @@ use mathlib.Core.List.{List, _++_}
 use Prim.Native.Nat.{ℕ, _≤_}
 use native.Mathlib.Omega.{arith}
 use lib.ListN.{length}
+use Rattle.rules.proofs.Clash.{clash}
 use Rattle.tray.specs.declared.Stop.the-variants.{Over}
 use Rattle.tray.specs.Run.{Tray, trayAtStart, whole, wholeFrom}
 use Rattle.tray.specs.AsCoded.Pieces.{linesOf, Streamed, begins, reads, ends, calls, Finished}
@@ -60,9 +61,9 @@ whole-run-prints new came = by-end true refl came where
         is-finished = done;
         as-defined = finished-prints trayAtStart _ _ new done;
       }
-  by-end _ is (broken-off _ _) = absurd (let z : _≡_ {A = ℕ} 0 1 = cc in omega arith)
-  by-end _ is (unread _ _) = absurd (let z : _≡_ {A = ℕ} 0 1 = cc in omega arith)
-  by-end _ is (spent _ _ _ _) = absurd (let z : _≡_ {A = ℕ} 0 1 = cc in omega arith)
+  by-end _ is (broken-off _ _) = absurd (clash (cc))
+  by-end _ is (unread _ _) = absurd (clash (cc))
+  by-end _ is (spent _ _ _ _) = absurd (clash (cc))
 
 -- ---- what no run leaves
 

@@ -95,7 +95,7 @@ module _ (asked : Asked) (entry : ℕ) (word : Word) (core : Core) where
         shut = core .shut;
         inhibit = core .inhibit;
         message = Open message;
-      } ≡ openedCore asked entry word core
+      } ≡ openedCore (openedMessage asked entry word core) asked entry word core
   unfolding openedCore withMessage withLast withStatus
   core-is message status last is-message is-status is-last =
       rw (is-message, is-status, is-last)
@@ -104,7 +104,7 @@ module _ (word : Word) (core : Core) (ram : List ℕ) where
   pub opened-is : (asked : Asked) (entry : ℕ) (new : Core)
       → asked ≡ askedOf (word .value)
       → entry ≡ cellAt ram (core .table) (asked .cell)
-      → new ≡ openedCore asked entry word core
+      → new ≡ openedCore (openedMessage asked entry word core) asked entry word core
       → new ≡ openedAt word core ram
   opened-is asked entry new is-asked is-entry is-new =
       rw (← is-asked, ← is-entry) is-new

@@ -47,18 +47,26 @@ openedStatus asked entry word core =
     (busyAt asked (core .flags) entry) (core .inhibit)))
     (core .status)
 
-unfoldable pub openedCore : Asked → ℕ → Word → Core → Core
-openedCore asked entry word core =
-    withMessage (Open (openedMessage asked entry word core))
+unfoldable pub openedCore : OpenMessage → Asked → ℕ → Word → Core → Core
+openedCore message asked entry word core =
+    withMessage (Open message)
     (withLast (cond (asked .last) (core .last) (word .value))
     (withStatus (openedStatus asked entry word core) core))
 
--- the word opens a message: the core after it, over the memory that it reads its chain's entry from
+-- ---- over memory
+
+-- the table word of the chain that a command goes by
+abbrev pub entryAt : Word → Core → List ℕ → ℕ
+entryAt word core ram = cellAt ram (core .table) (askedOf (word .value) .cell)
+
+-- the message that a command opens
+abbrev pub openedAs : Word → Core → List ℕ → OpenMessage
+openedAs word core ram = openedMessage (askedOf (word .value)) (entryAt word core ram) word core
+
+-- the core after it
 abbrev pub openedAt : Word → Core → List ℕ → Core
 openedAt word core ram =
-    let asked : Asked = askedOf (word .value) in
-    let entry : ℕ = cellAt ram (core .table) (asked .cell) in
-    openedCore asked entry word core
+    openedCore (openedAs word core ram) (askedOf (word .value)) (entryAt word core ram) word core
 
 unfoldable pub opening : Word → Card → Card
 opening word old = withCore (openedAt word (old .core) (old .ram)) old

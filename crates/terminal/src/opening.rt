@@ -106,7 +106,9 @@ fn opened_last(asked: Asked, last: u16, command: u16) -> u16
 }
 
 fn opened_core(asked: Asked, entry: u16, word: Word, core: Core) -> Core
-    ensures { λ opened. ⌜ opened ≡ openedCore asked entry word core ⌝ }
+    ensures { λ opened. ⌜
+        opened ≡ openedCore (openedMessage asked entry word core) asked entry word core
+        ⌝ }
 {
     let message = opened_message(asked, entry, word, core);
     let status = opened_status(asked, entry, word, core);

@@ -35,20 +35,12 @@ use Rattle.bus.specs.declared.word.Word.{Word}
 use Rattle.message.specs.Asked.{askedOf, asks}
 use Rattle.message.specs.Words.{ownCommand}
 use Rattle.terminal.specs.State.{Card, withStatus, withMessage}
-use Rattle.terminal.specs.Opening.{openedMessage, openedCore, opening}
-use Rattle.terminal.specs.Closing.{closedRam, closing, faulted, ended}
-use Rattle.terminal.specs.Event.{Event, word, none, Outcome, opens, quietly}
+use Rattle.terminal.specs.Opening.{openedMessage, openedCore, openedAs, opening}
+use Rattle.terminal.specs.Closing.{closedRam, closing, faulted}
+use Rattle.terminal.specs.Event.{Event, word, none, opens, quietly}
 use Rattle.terminal.specs.WordStep.{wordDone, wordMet, wordStep}
-use Rattle.terminal.specs.SilenceStep.{silenceDone}
 use Rattle.terminal.specs.Machine.{step, run}
-use Rattle.terminal_laws.specs.Closes.{
-  OpenWithBlock,
-  Closes,
-  by-fault,
-  by-superseding,
-  by-silence,
-  by-sound-end,
-}
+use Rattle.terminal_laws.specs.Closes.{OpenWithBlock, Closes}
 use Rattle.terminal_laws.specs.Written.{tableAddress}
 use Rattle.terminal_laws.specs.Chain.{
   linkOf,
@@ -61,39 +53,10 @@ use Rattle.terminal_laws.specs.Chain.{
   open-in,
 }
 use Rattle.message.proofs.AskedBounds.{cell-in-table}
-use Rattle.terminal_laws.proofs.StepFrame.{word-step, silence-step, step-writes-only}
+use Rattle.terminal_laws.proofs.StepFrame.{step-writes-only}
+use Rattle.terminal_laws.proofs.ClosedCells.{closed-ram}
 
 -- ---- a closing
-
--- whatever closes the message leaves memory as `closedRam` has it
-record ClosedRam (old : Card) (message : OpenMessage) (new : List ℕ) : Type 0 where
-  state : ℕ
-  time : ℕ
-  is : new ≡ closedRam (asks message) state time message (old .ram)
-
-module _ (old : Card) (message : OpenMessage) (is-open : old .core .message ≡ Open message) where
-  closed-by : {new : List ℕ} (state time : ℕ)
-      → new ≡ closedRam (asks message) state time message (old .ram)
-      → ClosedRam old message new
-  closed-by state time is = record { state = state; time = time; is = is }
-
-  closed-ram : {event : Event} → Closes old message event
-      → ClosedRam old message (step event old .card .ram)
-  unfolding wordDone silenceDone faulted ended closing opening
-  closed-ram (by-fault {heard = heard} judged) =
-      closed-by _ (heard .time)
-      (ap (λ (outcome : Outcome). outcome .card .ram) (word-step old message is-open heard judged))
-  closed-ram (by-superseding {heard = heard} judged) =
-      closed-by _ (heard .time)
-      (ap (λ (outcome : Outcome). outcome .card .ram) (word-step old message is-open heard judged))
-  closed-ram (by-silence {line = line} {time = time} judged) =
-      closed-by _ time
-      (ap (λ (outcome : Outcome). outcome .card .ram)
-      (silence-step old message is-open line time judged))
-  closed-ram (by-sound-end {line = line} {time = time} judged) =
-      closed-by _ time
-      (ap (λ (outcome : Outcome). outcome .card .ram)
-      (silence-step old message is-open line time judged))
 
 module _ (asked : Asked) (state time : ℕ) (message : OpenMessage) (ram : List ℕ)
     (has : asked .block ≡ true) where
@@ -170,10 +133,7 @@ module _ (heard : Word) (has : askedOf (heard .value) .block ≡ true) where
   opening-takes : (old : Card) → Takes (opening heard old) (old .core .table)
   unfolding opening openedCore openedMessage withMessage
   opening-takes old =
-      let asked = askedOf (heard .value) in
-      let entry = cellAt (old .ram) (old .core .table) (asked .cell) in
-      open-in {message = openedMessage asked entry heard (old .core)}
-      (rw has)
+      open-in {message = openedAs heard (old .core) (old .ram)} (rw has)
 
   word-done-takes : (act : WordAct) (asked : Asked) (message : OpenMessage) (old : Card)
       → wordDone act asked message heard old .opened ≢ none

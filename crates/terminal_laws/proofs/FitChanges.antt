@@ -5,7 +5,7 @@ use mathlib.Core.Path.{_≡_, refl}
 use mathlib.Core.Bool.{Bool, true, false, cond, _&&_}
 use mathlib.Core.List.{List}
 use Prim.Native.Nat.{ℕ, _<_}
-use Rattle.card.specs.Memory.{cardBlocks, cellAt}
+use Rattle.card.specs.Memory.{cardBlocks}
 use Rattle.queue.specs.declared.Queue.{Queue}
 use Rattle.queue.specs.Queue.{withJoined, fitQueue}
 use Rattle.queue.proofs.FitLaws.{join-keeps-fit}
@@ -16,8 +16,7 @@ use Rattle.message.specs.declared.state.Message.the-variants.{Idle, Open}
 use Rattle.terminal.specs.declared.state.Core.{Core}
 use Rattle.bus.specs.declared.word.Word.{Word}
 use Rattle.terminal.specs.State.{Card, card, withStatus, withLast, withSwitches, withMessage}
-use Rattle.message.specs.Asked.{askedOf}
-use Rattle.terminal.specs.Opening.{openedMessage, openedCore, opening}
+use Rattle.terminal.specs.Opening.{openedCore, entryAt, openedAs, opening}
 use Rattle.terminal.specs.Closing.{closedQueue, closing, faulted, ended}
 use Rattle.message.specs.Fitness.{fitMessage}
 use Rattle.terminal.specs.Fitness.{fitCore}
@@ -62,11 +61,10 @@ pub fit-opening : (word : Word) (old : Card)
 unfolding opening openedCore withMessage withLast withStatus fitCore
 fit-opening word old to-us fit =
     let core = old .core in
-    let asked = askedOf (word .value) in
-    let entry = cellAt (old .ram) (core .table) (asked .cell) in
-    let message = openedMessage asked entry word core in
+    let message = openedAs word core (old .ram) in
     let fit-message : FitOpen (core .station) message =
-    opened-fits entry word core to-us (fit-core-parts core (fit .core) .table) in
+    opened-fits (entryAt word core (old .ram)) word core to-us
+    (fit-core-parts core (fit .core) .table) in
     record {
       core = fit-with-message (Open message) core (fit-open-whole fit-message) (fit .core);
       queue = fit .queue;

@@ -10,12 +10,14 @@ use borrow.Author.Tests.{leb-false}
 use Rattle.rules.proofs.Cases.{both}
 use Rattle.card.specs.Memory.{cardBlocks, theBlock}
 use Rattle.card.specs.TableWord.{blockOf}
+use Rattle.message.specs.declared.state.Stage.{Stage}
 use Rattle.message.specs.declared.state.Stage.the-variants.{
   Data,
   SecondCommand,
   AwaitingStatus,
   Skipping,
 }
+use Rattle.message.specs.declared.state.Second.{Second}
 use Rattle.message.specs.declared.state.Second.the-variants.{Absent, Command}
 use Rattle.message.specs.declared.state.OpenMessage.{OpenMessage}
 use Rattle.message.specs.declared.state.Message.{Message}
@@ -26,13 +28,13 @@ use Rattle.message.specs.Message.{further, movedMessage}
 use Rattle.message.specs.Asked.{askedOf, asks}
 use Rattle.terminal.specs.Opening.{openedMessage}
 use Rattle.message.specs.Words.{isSecond}
-use Rattle.message.specs.Fitness.{fitStage, fitOpen, fitMessage}
+use Rattle.message.specs.Fitness.{fitSecond, fitStage, fitOpen, fitMessage}
 use Rattle.terminal_laws.proofs.FitParts.{addressed, isLegal, InStage, FitOpen}
 
 -- ---- the message that a word opens
 
 -- a table word names one of 256 blocks, and without a block the number is 0
-fit-block : (has : Bool) (entry : ℕ) → cond has (blockOf entry) (theBlock 0) .0 < cardBlocks
+pub fit-block : (has : Bool) (entry : ℕ) → cond has (blockOf entry) (theBlock 0) .0 < cardBlocks
 fit-block true entry = omega arith
 fit-block false entry = omega arith
 
@@ -60,67 +62,52 @@ opened-fits entry word core to-us table =
 -- ---- the message further on
 
 module _ (station : ℕ) (message : OpenMessage) (fit : FitOpen station message) where
-  -- one more of the words that it wants
-  pub fits-with-word : isLegal message ≡ true
-      → leb (asks message .takes) (message .taken) ≡ false
-      → FitOpen station (further Data (message .second) (message .taken + 1) message)
+  -- words taken, second command and stage are asked for anew; the rest was fixed at the opening
+  further-fits : (stage : Stage) (second : Second) (taken : ℕ) → taken ≤ asks message .takes
+      → fitSecond second station (message .command) (asks message .receive) ≡ true
+      → fitStage stage (asks message .illegal) second taken ≡ true
+      → FitOpen station (further stage second taken message)
   unfolding further
-  fits-with-word legal short =
+  further-fits stage second taken few as-taken reached =
       record {
         address = fit .address;
         block = fit .block;
         home = fit .home;
-        taken =
-            omega (arith, leb-false (asks message .takes) (message .taken) short);
-        second = fit .second;
-        stage = legal;
+        taken = few;
+        second = as-taken;
+        stage = reached;
       }
+
+  -- one more of the words that it wants
+  pub fits-with-word : isLegal message ≡ true
+      → leb (asks message .takes) (message .taken) ≡ false
+      → FitOpen station (further Data (message .second) (message .taken + 1) message)
+  fits-with-word legal short =
+      further-fits Data (message .second) (message .taken + 1)
+      (omega (arith, leb-false (asks message .takes) (message .taken) short)) (fit .second) legal
 
   -- a second command before any word of a data receive
   pub fits-with-second : (value : ℕ) → isLegal message ≡ true
       → asks message .receive ≡ true → eqb (message .taken) 0 ≡ true
       → isSecond station (message .command) value ≡ true
       → FitOpen station (further SecondCommand (Command value) (message .taken) message)
-  unfolding further
   fits-with-second value legal receive none second =
-      record {
-        address = fit .address;
-        block = fit .block;
-        home = fit .home;
-        taken = fit .taken;
-        second =
-            both (asks message .receive) (isSecond station (message .command) value)
-            receive second;
-        stage = rw (legal, none);
-      }
+      further-fits SecondCommand (Command value) (message .taken) (fit .taken)
+      (both (asks message .receive) (isSecond station (message .command) value) receive second)
+      (rw (legal, none))
 
   -- the silence behind a second command
   pub fits-awaiting : InStage SecondCommand message
       → FitOpen station (further AwaitingStatus (message .second) (message .taken) message)
-  unfolding further
   fits-awaiting reached =
-      record {
-        address = fit .address;
-        block = fit .block;
-        home = fit .home;
-        taken = fit .taken;
-        second = fit .second;
-        stage = reached;
-      }
+      further-fits AwaitingStatus (message .second) (message .taken) (fit .taken) (fit .second)
+      reached
 
   -- the answering status
   pub fits-with-status : isLegal message ≡ true
       → FitOpen station (further Data (message .second) (message .taken) message)
-  unfolding further
   fits-with-status legal =
-      record {
-        address = fit .address;
-        block = fit .block;
-        home = fit .home;
-        taken = fit .taken;
-        second = fit .second;
-        stage = legal;
-      }
+      further-fits Data (message .second) (message .taken) (fit .taken) (fit .second) legal
 
 -- the host has set the table block
 pub moved-fits : (station : ℕ) (message : Message)

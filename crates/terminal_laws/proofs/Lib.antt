@@ -9,6 +9,8 @@
 --     StoreLaws     where rule 8 stores a word
 --     OneBlock      one broken message costs one block
 --     StepFrame     what an event leaves alone: every cell that it may not write
+--     ClosedCells   what a closing makes of memory: data cells and length are kept
+--     RestLaws      whole and fit, or at rest, a card stays so; its blocks lie in memory
 --     OtherCells    .. and so the other cells of a message's block, and other blocks
 --     ClosesLaws    an open message closes, is dropped, or stays open as it was opened
 --     ReplyLaws     the words that a reply sends are those in memory at the silence
@@ -23,6 +25,8 @@ pub mod FitLaws
 pub mod StoreLaws
 pub mod OneBlock
 pub mod StepFrame
+pub mod ClosedCells
+pub mod RestLaws
 pub mod OtherCells
 pub mod ClosesLaws
 pub mod ReplyLaws

@@ -6,6 +6,7 @@ use mathlib.Core.Path.{_≡_, subst}
 use mathlib.Core.Logic.{_≢_}
 use Prim.Native.Nat.{ℕ, _≤_, _<_}
 use native.Mathlib.Omega.{arith}
+use Rattle.rules.proofs.Clash.{clash}
 use Rattle.card.specs.declared.place.Block.{Block}
 use Rattle.card.specs.declared.place.Cell.{Cell}
 use Rattle.card.specs.Memory.{blockCells, wordAddress, cellAt}
@@ -52,9 +53,7 @@ action-may-write-nothing old action (table-cell with-block closes stays is) =
 not-idle : {message : OpenMessage} (old : Card) → old .core .message ≡ Idle
     → OpenWithBlock old message → ⊥
 not-idle old idle with-block =
-    let is-open = with-block .is-open in
-    let clash : _≡_ {A = ℕ} 0 1 = cc in
-    omega arith
+    let is-open = with-block .is-open in clash (cc)
 
 -- words and silences where nothing is open
 pub idle-may-write-nothing : {event : Event} {address : ℕ} (old : Card)

@@ -4,15 +4,17 @@
 use mathlib.Core.Path.{_≡_, refl, sym, ap, subst, _∙_}
 use mathlib.Core.Bool.{Bool, true, false, cond, not, _&&_}
 use mathlib.Core.List.{List, _∷_}
-use Prim.Native.Nat.{ℕ, _+_, _≤_, _<_}
+use Prim.Native.Nat.{ℕ, _≤_, _<_}
 use native.Mathlib.Omega.{arith}
 use lib.Dec.{eqb}
-use lib.ListN.{length, take, drop, length-take, length-drop}
-use lib.Seq.{ext-getD, getD-take, getD-drop}
+use lib.ListN.{length}
+use Rattle.rules.proofs.Choices.{by-test}
+use Rattle.rules.proofs.Clash.{clash}
 use Rattle.card.specs.declared.place.Block.{Block}
 use Rattle.card.specs.declared.place.Cell.{Cell}
-use Rattle.card.specs.Memory.{theCell, wordAddress, cellAt}
+use Rattle.card.specs.Memory.{wordAddress, cellAt}
 use Rattle.card.specs.Sent.{sentPart}
+use Rattle.card.proofs.CellLaws.{part-of-same-cells}
 use Rattle.message.specs.declared.judge.SilenceAct.{SilenceAct}
 use Rattle.message.specs.declared.judge.SilenceAct.the-variants.{Ignore, AwaitStatus, Fault, End}
 use Rattle.message.specs.declared.state.OpenMessage.{OpenMessage}
@@ -40,24 +42,9 @@ use Rattle.terminal_laws.proofs.StepFrame.{silence-step, step-writes-on
 same-sent : (ram other : List ℕ) (block : Block) (count : ℕ) → length ram ≡ length other
     → ((cell : Cell) → cell .0 < count → cellAt ram block cell ≡ cellAt other block cell)
     → sentPart ram block count ≡ sentPart other block count
-unfolding sentPart cellAt
+unfolding sentPart
 same-sent ram other block count long cells =
-    let start = wordAddress block (theCell 0) in
-    let part : take count (drop start ram) ≡ take count (drop start other) =
-    ext-getD 0 (take count (drop start ram)) (take count (drop start other))
-    (simp (length-take, length-drop, long))
-    (λ cell inside.
-    let below : cell < count = omega (arith, simp length-take at inside) in
-    let at : wordAddress block (theCell cell) ≡ start + cell = omega arith in
-    rw (
-      getD-take count (drop start ram) cell 0 below,
-      getD-take count (drop start other) cell 0 below,
-      getD-drop start ram cell 0,
-      getD-drop start other cell 0,
-      ← at,
-    )
-    (cells (theCell cell) below)) in
-    rw (long, part) refl
+    rw (long, part-of-same-cells ram other block count long cells) refl
 
 -- answers, with what holds where one sends words
 data Sends (cell : Cell) : Answer → Type 0 where
@@ -67,20 +54,15 @@ data Sends (cell : Cell) : Answer → Type 0 where
   some-words : {status : ℕ} {block : Block} {count : ℕ} → 32 ≤ cell .0
       → Sends cell (Replied (Words status block count))
 
-sends-if : {cell : Cell} {reply other : Reply} (test : Bool)
-    → (test ≡ true → Sends cell (Replied reply)) → (test ≡ false → Sends cell (Replied other))
-    → Sends cell (Replied (cond test reply other))
-sends-if true holds fails = holds refl
-sends-if false holds fails = fails refl
-
 sends-some : (busy : Bool) (sends : ℕ) → eqb (cond busy 0 sends) 0 ≡ false → sends ≡ 0 → ⊥
-sends-some true sends some none = let clash : _≡_ {A = ℕ} 0 1 = cc in omega arith
+sends-some true sends some none = clash (cc)
 sends-some false sends some none =
-    let some-of-none : eqb 0 0 ≡ false = rw none at some in
-    let clash : _≡_ {A = ℕ} 0 1 = cc in
-    omega arith
+    let some-of-none : eqb 0 0 ≡ false = rw none at some in clash (cc)
 
 module _ (message : OpenMessage) (time : ℕ) (old : Card) where
+  abbrev Given : Reply → Type 0
+  Given reply = Sends (asks message .cell) (Replied reply)
+
   high-done : (act : SilenceAct)
       → Sends (asks message .cell)
       (silenceDone act (asks message) message time old .answer)
@@ -90,9 +72,9 @@ module _ (message : OpenMessage) (time : ℕ) (old : Card) where
   high-done (Fault code) = silent
   high-done End =
       let asked = asks message in
-      sends-if (not (replies (old .core) message)) (λ shut. silent) (λ given.
-      sends-if (asked .last) (λ last. a-last) (λ other.
-      sends-if (eqb (unlessBusy asked message (asked .sends)) 0) (λ alone. a-status) (λ some.
+      by-test Given (not (replies (old .core) message)) (λ shut. silent) (λ given.
+      by-test Given (asked .last) (λ last. a-last) (λ other.
+      by-test Given (eqb (unlessBusy asked message (asked .sends)) 0) (λ alone. a-status) (λ some.
       some-words
       (sends-by-high-cell (message .command)
       (sends-some (message .busy && asked .yields) (asked .sends) some)))))

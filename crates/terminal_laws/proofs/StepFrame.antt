@@ -115,7 +115,7 @@ module _ {Written : ℕ → Type 0} where
       record { same-length = keeps .same-length ram; same-else = keeps .same-else ram }
 
   -- a closing: cells 58 to 61, and the table cell unless the host has set the table block since
-  written-closing : (asked : Asked) (state time : ℕ) (message : OpenMessage) (ram : List ℕ)
+  pub written-closing : (asked : Asked) (state time : ℕ) (message : OpenMessage) (ram : List ℕ)
       → (asked .block ≡ true → (cell : Cell) (address : ℕ) → 58 ≤ cell .0 → cell .0 ≤ 61
       → address ≡ wordAddress (message .block) cell → Written address)
       → (asked .block ≡ true → message .moved ≡ false → (address : ℕ)

@@ -1,12 +1,13 @@
 -- Where rule 8 stores a word: the message has a block, the next cell is a data cell, and busy data
 -- do not keep the word back. For every message, fit or not, by `search` through the tests of the
 -- rules. Assumes nothing.
-use mathlib.Core.Path.{_≡_, refl, subst}
+use mathlib.Core.Path.{_≡_, subst}
 use mathlib.Core.Bool.{Bool, true, false, cond, _&&_}
 use Prim.Native.Nat.{ℕ, _<_}
 use native.Mathlib.Omega.{arith}
 use lib.Dec.{leb}
 use borrow.Author.Tests.{leb-false}
+use Rattle.rules.proofs.Choices.{by-test}
 use Rattle.message.specs.declared.asked.Asked.{Asked}
 use Rattle.message.specs.declared.judge.WordAct.{WordAct}
 use Rattle.message.specs.declared.judge.WordAct.the-variants.{
@@ -52,8 +53,7 @@ data Told (asked : Asked) (message : OpenMessage) : WordAct → Type 0 where
 told-if : {asked : Asked} {message : OpenMessage} {test : Bool} {act other : WordAct}
     → (test ≡ true → Told asked message act) → (test ≡ false → Told asked message other)
     → Told asked message (cond test act other)
-told-if {test = true} holds fails = holds refl
-told-if {test = false} holds fails = fails refl
+told-if {asked} {message} {test} holds fails = by-test (Told asked message) test holds fails
 
 ruleset telling = (
   ignores,

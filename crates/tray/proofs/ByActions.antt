@@ -14,7 +14,7 @@ use Rattle.card.specs.Memory.{cardWords}
 use Rattle.terminal.specs.State.{Card}
 use Rattle.terminal.specs.Event.{Event, Shown, shown}
 use Rattle.terminal.specs.Machine.{step, queueReadStep, tableMoveStep, flagsWriteStep}
-use Rattle.terminal.specs.Fitness.{fitCard}
+use Rattle.terminal_laws.specs.AtRest.{WholeAndFit}
 use Rattle.actions.specs.Actions.{
   After,
   after,
@@ -64,7 +64,7 @@ use Rattle.tray.specs.Run.{
 use Rattle.tray.specs.Sound.{SoundTray}
 use Rattle.tray.specs.ByActions.{actionOf, trayWith, ByActions, acts, ends, refuses}
 use Rattle.tray.proofs.PrintedLaws.{whole-by-reading}
-use Rattle.tray.proofs.SoundLaws.{start-is-sound, begun-before, taking-is-sound}
+use Rattle.tray.proofs.SoundLaws.{start-is-sound, sound-before, taking-is-sound}
 use Rattle.tray.proofs.RefusedAlike.{refused-alike}
 
 -- ---- an action that refuses nothing
@@ -73,11 +73,11 @@ use Rattle.tray.proofs.RefusedAlike.{refused-alike}
 abbrev unrefused : Shown → After
 unrefused new = after 0 (new .answer) (new .card)
 
-memory-taken : (event : Event) (old : Card) (inOrder : Bool) → length (old .ram) ≡ cardWords
-    → fitCard old ≡ true → inOrder ≡ true → withMemory inOrder 8 event old ≡ took (step event old)
+memory-taken : (event : Event) (old : Card) (inOrder : Bool) → WholeAndFit old
+    → inOrder ≡ true → withMemory inOrder 8 event old ≡ took (step event old)
 unfolding withMemory
-memory-taken event old inOrder long fit is =
-    rw (eq-eqb (length (old .ram)) cardWords long, fit, is)
+memory-taken event old inOrder sound is =
+    rw (eq-eqb (length (old .ram)) cardWords (sound .whole-memory), sound .fit, is)
 
 -- the words of a host write in order are 1 to 64, and on the card
 words-in-order : (bytes : List ℕ) (place next address first count : ℕ)
@@ -93,38 +93,37 @@ words-in-order bytes place next address first count in-order =
       le-leb (address + count) cardWords (in-order .on-card),
     )
 
-module _ (bytes : List ℕ) (place next : ℕ) (old : Card) (long : length (old .ram) ≡ cardWords) where
+module _ (bytes : List ℕ) (place next : ℕ) (old : Card) where
   action-taken : (field : Field) → InOrder place next field
-      → (isSetup field ≡ false → fitCard old ≡ true)
+      → (isSetup field ≡ false → WholeAndFit old)
       → actionOf bytes field old ≡ unrefused (happened (happeningOf bytes field) old)
   unfolding actionOf happened happeningOf step queueReadStep tableMoveStep flagsWriteStep
       setupAction wordAction silenceAction hostWriteAction readQueueAction moveTableAction
       setFlagsAction withoutMemory terminalAtSetup
-  action-taken (Setup station table flags) in-order fit =
+  action-taken (Setup station table flags) in-order sound =
       rw (
         le-leb station 30 (in-order .station-at-most),
         le-leb table 255 (in-order .table-at-most),
         le-leb flags 63 (in-order .flags-at-most),
       )
-  action-taken (Word marks value time) in-order fit =
-      memory-taken _ old (leb marks 15) long (fit refl) (le-leb marks 15 in-order)
-  action-taken (Silence line time) in-order fit =
-      memory-taken _ old (leb line 1) long (fit refl) (le-leb line 1 in-order)
-  action-taken QueueRead in-order fit = rw (fit refl)
-  action-taken (HostWrite address first count) in-order fit =
-      memory-taken _ old _ long (fit refl)
+  action-taken (Word marks value time) in-order sound =
+      memory-taken _ old (leb marks 15) (sound refl) (le-leb marks 15 in-order)
+  action-taken (Silence line time) in-order sound =
+      memory-taken _ old (leb line 1) (sound refl) (le-leb line 1 in-order)
+  action-taken QueueRead in-order sound = rw (sound refl .fit)
+  action-taken (HostWrite address first count) in-order sound =
+      memory-taken _ old _ (sound refl)
       (words-in-order bytes place next address first count in-order)
-  action-taken (Table table) in-order fit = rw (fit refl, le-leb table 255 in-order)
-  action-taken (Flags flags) in-order fit = rw (fit refl, le-leb flags 63 in-order)
+  action-taken (Table table) in-order sound = rw (sound refl .fit, le-leb table 255 in-order)
+  action-taken (Flags flags) in-order sound = rw (sound refl .fit, le-leb flags 63 in-order)
 
 -- the action of a field that is taken from a sound tray does what the run does
 pub field-by-action : (bytes : List ℕ) (place : ℕ) (old : Tray) {field : Field} {next : ℕ}
     → readAt bytes place (old .begun) ≡ Taken field next → SoundTray old
     → actionOf bytes field (old .card) ≡ unrefused (happened (happeningOf bytes field) (old .card))
 field-by-action bytes place old {field} {next} is sound =
-    action-taken bytes place next (old .card) (sound .whole-memory) field
-    (taken-in-order bytes place (old .begun) is)
-    (λ other. sound .fit (begun-before bytes place old is other))
+    action-taken bytes place next (old .card) field (taken-in-order bytes place (old .begun) is)
+    (sound-before bytes place old is sound)
 
 -- ---- a run is what the actions make
 
@@ -142,7 +141,7 @@ by-reading rest old bytes (Taken field next) sound then is =
     omega (arith, length-drop next bytes, within .moves-on, within .ends-inside) in
     acts sound is (field-by-action bytes 0 old is sound)
     (then (taking bytes field next old) (drop next bytes) fewer
-    (taking-is-sound bytes 0 old is next sound))
+    (taking-is-sound bytes 0 old is sound next))
 by-reading rest old bytes End sound then is = ends sound is
 by-reading rest old bytes (Refused number place) sound then is =
     refuses sound is (refused-alike bytes old sound is)

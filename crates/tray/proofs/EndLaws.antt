@@ -10,6 +10,7 @@ use native.Mathlib.Omega.{arith}
 use lib.Dec.{ltb}
 use lib.ListN.{length}
 use borrow.Author.Tests.{ltb-true, ltb-false}
+use Rattle.rules.proofs.Clash.{clash}
 use Rattle.recording.specs.declared.reading.Reading.{Reading}
 use Rattle.recording.specs.declared.reading.Reading.the-variants.{Taken, End, Refused}
 use Rattle.recording.specs.Reading.{readAt}
@@ -34,33 +35,28 @@ use Rattle.tray.specs.AsCoded.Window.{
   mostTurns,
   windowRun,
 }
+use Rattle.tray.proofs.TurnLaws.{going-is}
 use Rattle.tray.proofs.WindowLaws.{turn-inside}
 
 -- ---- reasons differ
 
 hungry-going : Hungry ≢ Going
-hungry-going same = let z : _≡_ {A = ℕ} 0 1 = cc in omega arith
+hungry-going same = clash (cc)
 
 hungry-full : Hungry ≢ Full
-hungry-full same = let z : _≡_ {A = ℕ} 0 1 = cc in omega arith
+hungry-full same = clash (cc)
 
 pub over-going : Over ≢ Going
-over-going same = let z : _≡_ {A = ℕ} 0 1 = cc in omega arith
+over-going same = clash (cc)
 
 pub over-full : Over ≢ Full
-over-full same = let z : _≡_ {A = ℕ} 0 1 = cc in omega arith
+over-full same = clash (cc)
 
 pub full-going : Full ≢ Going
-full-going same = let z : _≡_ {A = ℕ} 0 1 = cc in omega arith
+full-going same = clash (cc)
 
 pub going-full : Going ≢ Full
-going-full same = let z : _≡_ {A = ℕ} 0 1 = cc in omega arith
-
-is-going : (stop : Stop) → isGoing stop ≡ true → stop ≡ Going
-is-going Going is = refl
-is-going Hungry is = absurd (let z : _≡_ {A = ℕ} 0 1 = cc in omega arith)
-is-going Full is = absurd (let z : _≡_ {A = ℕ} 0 1 = cc in omega arith)
-is-going Over is = absurd (let z : _≡_ {A = ℕ} 0 1 = cc in omega arith)
+going-full same = clash (cc)
 
 module _ (window : List ℕ) (last : Bool) where
   -- what every turn keeps, a call keeps
@@ -168,7 +164,7 @@ module _ (window : List ℕ) (last : Bool) where
       go : (old′ : Passed) → Untouched old′ → (reading : Reading)
           → Untouched (passing reading window last old′)
       go old′ so-far (Taken field next) begun =
-          absurd (let z : _≡_ {A = ℕ} 0 1 = cc in omega arith)
+          absurd (clash (cc))
       go old′ so-far End begun = so-far begun
       go old′ so-far (Refused number place) begun = so-far begun
 
@@ -202,22 +198,22 @@ module _ (window : List ℕ) (last : Bool) where
       Other stop = stop ≢ Hungry
 
       going : Other Going
-      going same = let z : _≡_ {A = ℕ} 0 1 = cc in omega arith
+      going same = clash (cc)
 
       full : Other Full
-      full same = let z : _≡_ {A = ℕ} 0 1 = cc in omega arith
+      full same = clash (cc)
 
       over : Other Over
-      over same = let z : _≡_ {A = ℕ} 0 1 = cc in omega arith
+      over same = clash (cc)
 
       go : (old′ : Passed) (reading : Reading) → Other (passing reading window last old′ .stop)
       go old′ (Taken field next) = going
       go old′ End =
           stops-so Other 0 old′
-          (λ more. absurd (let z : _≡_ {A = ℕ} 0 1 = cc in omega arith)) over
+          (λ more. absurd (clash (cc))) over
       go old′ (Refused number place) =
           stops-so Other number old′
-          (λ more. absurd (let z : _≡_ {A = ℕ} 0 1 = cc in omega arith)) over
+          (λ more. absurd (clash (cc))) over
 
   -- a turn that does not stop has taken a field
   turn-moves : (old : Passed) → turn window last old .stop ≡ Going
@@ -282,7 +278,7 @@ module _ (window : List ℕ) (last : Bool) where
       (omega (
         arith,
         few,
-        turn-moves old (is-going (turn window last old .stop) is),
+        turn-moves old (going-is (turn window last old .stop) is),
         turn-within old within,
       ))
   after-turn most old false is on within few =

@@ -1,26 +1,20 @@
 -- The loop of `run_window`: what is left of the turns leads from where it is to where the whole
 -- call leads. Assumes nothing.
 use mathlib.Core.Path.{_≡_, refl, sym, ap, _∙_}
-use mathlib.Core.Bool.{Bool, true, false, true≢false, not}
+use mathlib.Core.Bool.{Bool, true, false, not}
 use mathlib.Core.List.{List}
 use Prim.Native.Nat.{ℕ, zero, suc, _-_, _≤_, _<_}
 use native.Mathlib.Omega.{arith}
 use lib.ListN.{length}
 use borrow.Author.Tests.{not-true, not-false}
 use Rattle.tray.specs.declared.Ran.{Ran}
-use Rattle.tray.specs.declared.Stop.{Stop}
-use Rattle.tray.specs.declared.Stop.the-variants.{Going, Hungry, Full, Over}
+use Rattle.tray.specs.declared.Stop.the-variants.{Going}
 use Rattle.tray.specs.AsCoded.Window.{Passed, isGoing, turn, turns}
 use Rattle.tray.specs.AsCoded.Held.{passedOf}
 use Rattle.tray.specs.AsCoded.Row.{RowTaken}
+use Rattle.tray.proofs.TurnLaws.{going-is}
 use Rattle.tray.proofs.WordTurns.{one-turn}
 use Rattle.tray.proofs.RowTurns.{turn-left, fewer-left}
-
-going-is : (stop : Stop) → isGoing stop ≡ true → stop ≡ Going
-going-is Going going = refl
-going-is Hungry going = absurd (true≢false (sym going))
-going-is Full going = absurd (true≢false (sym going))
-going-is Over going = absurd (true≢false (sym going))
 
 pub record Leads (window : List ℕ) (last : Bool) (start : Passed) (most : ℕ) (old : Passed)
     (left : ℕ) : Type 0 where

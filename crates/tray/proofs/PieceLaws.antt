@@ -4,8 +4,8 @@ use mathlib.Core.Path.{_≡_, refl, sym, ap, _∙_}
 use mathlib.Core.Bool.{Bool, true, false}
 use mathlib.Core.List.{List, [], _++_, append-assoc, append-nil}
 use Prim.Native.Nat.{ℕ}
-use native.Mathlib.Omega.{arith}
 use lib.ListN.{drop}
+use Rattle.rules.proofs.Clash.{clash}
 use Rattle.tray.specs.Run.{Tray, trayAtStart, Whole, whole, withLine, wholeFrom, printed}
 use Rattle.tray.specs.AsCoded.Window.{Passed, windowRun}
 use Rattle.tray.specs.AsCoded.Pieces.{linesOf, Streamed, begins, reads, ends, calls, Finished}
@@ -22,13 +22,13 @@ streamed-prints start _ _ _ _ _
     (reads {input = input} {text = text} {old = old} {window = window} piece so-far) behind none =
     ap (wholeFrom start) (append-assoc input piece behind)
     ∙ streamed-prints start false input text old window so-far (piece ++ behind)
-    (λ differ. absurd (let z : _≡_ {A = ℕ} 0 1 = cc in omega arith))
+    (λ differ. absurd (clash (cc)))
     ∙ ap (λ (bytes : List ℕ). withLine text (wholeFrom old bytes))
     (sym (append-assoc window piece behind))
 streamed-prints start _ _ _ _ _
     (ends {input = input} {text = text} {old = old} {window = window} so-far) behind none =
     streamed-prints start false input text old window so-far behind
-    (λ differ. absurd (let z : _≡_ {A = ℕ} 0 1 = cc in omega arith))
+    (λ differ. absurd (clash (cc)))
 streamed-prints start _ _ _ _ _
     (calls {ended = ended} {input = input} {text = text} {old = old} {window = window} out
     so-far other) behind none =

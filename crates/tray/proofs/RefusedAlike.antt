@@ -9,11 +9,12 @@ use native.Mathlib.Omega.{arith}
 use lib.Dec.{eqb, leb, ltb}
 use lib.ListN.{length}
 use borrow.Author.Tests.{eqb-true, eq-eqb, le-leb, lt-leb, lt-ltb, le-ltb, not-false}
+use Rattle.rules.proofs.Choices.{by-test, choice-under}
 use Rattle.card.specs.Memory.{cardWords}
 use Rattle.terminal.specs.State.{Card}
 use Rattle.actions.specs.declared.Done.{Done}
 use Rattle.terminal.specs.Event.{Event}
-use Rattle.terminal.specs.Fitness.{fitCard}
+use Rattle.terminal_laws.specs.AtRest.{WholeAndFit}
 use Rattle.actions.specs.Actions.{
   After,
   withMemory,
@@ -41,12 +42,12 @@ use Rattle.recording.specs.declared.reading.Reading.the-variants.{Taken, End, R
 use Rattle.recording.specs.Bytes.{bytesLeft, byteAt, wordAt, timeAt}
 use Rattle.recording.specs.Field.{isTag, lengthFits, fieldAt, valueRefusal}
 use Rattle.recording.specs.Reading.{readAt}
-use Rattle.recording.proofs.Choices.{by-test, choice-under}
 use Rattle.recording.proofs.FieldLaws.{size-of-write}
 use Rattle.recording.proofs.WordsLaws.{length-words-at}
 use Rattle.tray.specs.Run.{Tray}
 use Rattle.tray.specs.Sound.{SoundTray}
 use Rattle.tray.specs.ByActions.{actionOf, firstField, isForValue}
+use Rattle.tray.proofs.SoundLaws.{begun-is-whole-and-fit}
 
 -- ---- each action's number
 
@@ -59,11 +60,11 @@ above limit value =
           rw (le-leb value limit (omega arith), le-ltb limit value (omega arith))
     ]
 
-memory-number : (event : Event) (old : Card) (inOrder : Bool) → length (old .ram) ≡ cardWords
-    → fitCard old ≡ true → withMemory inOrder 8 event old .refusal ≡ cond (not inOrder) 8 0
+memory-number : (event : Event) (old : Card) (inOrder : Bool) → WholeAndFit old
+    → withMemory inOrder 8 event old .refusal ≡ cond (not inOrder) 8 0
 unfolding withMemory
-memory-number event old inOrder long fit =
-    rw (eq-eqb (length (old .ram)) cardWords long, fit)
+memory-number event old inOrder sound =
+    rw (eq-eqb (length (old .ram)) cardWords (sound .whole-memory), sound .fit)
     (sym (choice-under (λ (left : After). left .refusal) (not inOrder) refl refl))
 
 module _ (bytes : List ℕ) (old : Card) where
@@ -79,19 +80,19 @@ module _ (bytes : List ℕ) (old : Card) where
       (choice-under (λ (done : Done). done .refusal) (ltb 255 table) refl
       (choice-under (λ (done : Done). done .refusal) (ltb 63 flags) refl refl))))
 
-  module _ (long : length (old .ram) ≡ cardWords) (fit : fitCard old ≡ true) where
+  module _ (sound : WholeAndFit old) where
     word-number : (marks value time : ℕ) → SameNumber (Word marks value time)
     unfolding actionOf wordAction
     word-number marks value time =
-        rw (← above 15 marks) (memory-number _ old (leb marks 15) long fit)
+        rw (← above 15 marks) (memory-number _ old (leb marks 15) sound)
 
     silence-number : (line time : ℕ) → SameNumber (Silence line time)
     unfolding actionOf silenceAction
-    silence-number line time = rw (← above 1 line) (memory-number _ old (leb line 1) long fit)
+    silence-number line time = rw (← above 1 line) (memory-number _ old (leb line 1) sound)
 
     queue-read-number : SameNumber QueueRead
     unfolding actionOf readQueueAction
-    queue-read-number = rw fit
+    queue-read-number = rw (sound .fit)
 
     write-number : (address first count : ℕ) → 1 ≤ count → count ≤ 64
         → SameNumber (HostWrite address first count)
@@ -103,18 +104,18 @@ module _ (bytes : List ℕ) (old : Card) where
           le-leb count 64 few,
           ← above 16384 (address + count),
         )
-        (memory-number _ old (leb (address + count) cardWords) long fit)
+        (memory-number _ old (leb (address + count) cardWords) sound)
 
     table-number : (table : ℕ) → SameNumber (Table table)
     unfolding actionOf moveTableAction withoutMemory
     table-number table =
-        rw (fit, above 255 table)
+        rw (sound .fit, above 255 table)
         (sym (choice-under (λ (left : After). left .refusal) (ltb 255 table) refl refl))
 
     flags-number : (flags : ℕ) → SameNumber (Flags flags)
     unfolding actionOf setFlagsAction withoutMemory
     flags-number flags =
-        rw (fit, above 63 flags)
+        rw (sound .fit, above 63 flags)
         (sym (choice-under (λ (left : After). left .refusal) (ltb 63 flags) refl refl))
 
 -- ---- the reader's number
@@ -127,9 +128,10 @@ module _ (bytes : List ℕ) (old : Tray) (sound : SoundTray old) where
   size = wordAt bytes 1
 
   -- a field that is no setup has one before it
-  fit-in-turn : Bool·beq (old .begun) (eqb tag 1) ≡ false → eqb tag 1 ≡ false
-      → fitCard (old .card) ≡ true
-  fit-in-turn in-turn other = sound .fit (go (old .begun) (eqb tag 1) in-turn other)
+  sound-in-turn : Bool·beq (old .begun) (eqb tag 1) ≡ false → eqb tag 1 ≡ false
+      → WholeAndFit (old .card)
+  sound-in-turn in-turn other =
+      begun-is-whole-and-fit sound (go (old .begun) (eqb tag 1) in-turn other)
     where
       go : (begun first : Bool) → Bool·beq begun first ≡ false → first ≡ false → begun ≡ true
       go true first apart other = refl
@@ -144,31 +146,28 @@ module _ (bytes : List ℕ) (old : Tray) (sound : SoundTray old) where
       by-test Claim (eqb tag 1)
       (λ _. setup-number bytes given (byteAt bytes 3) (byteAt bytes 4) (byteAt bytes 5))
       (λ other.
-      let fit : fitCard given ≡ true = fit-in-turn in-turn other in
+      let card-sound : WholeAndFit given = sound-in-turn in-turn other in
       by-test Claim (eqb tag 2)
-      (λ _. word-number bytes given long fit (byteAt bytes 3) (wordAt bytes 4) (timeAt bytes 6))
+      (λ _. word-number bytes given card-sound (byteAt bytes 3) (wordAt bytes 4) (timeAt bytes 6))
       (λ _.
       by-test Claim (eqb tag 3)
-      (λ _. silence-number bytes given long fit (byteAt bytes 3) (timeAt bytes 4)) (λ _.
-      by-test Claim (eqb tag 4) (λ _. queue-read-number bytes given long fit) (λ _.
+      (λ _. silence-number bytes given card-sound (byteAt bytes 3) (timeAt bytes 4)) (λ _.
+      by-test Claim (eqb tag 4) (λ _. queue-read-number bytes given card-sound) (λ _.
       by-test Claim (eqb tag 5)
       (λ is.
       let sized = size-of-write tag size fits (eqb-true tag 5 is) in
-      write-number bytes given long fit (wordAt bytes 3) 5 ((size - 2) / 2)
+      write-number bytes given card-sound (wordAt bytes 3) 5 ((size - 2) / 2)
       (omega (arith, sized .at-least)) (omega (arith, sized .at-most)))
       (λ _.
       by-test Claim (eqb tag 6)
-      (λ _. table-number bytes given long fit (byteAt bytes 3))
-      (λ _. flags-number bytes given long fit (byteAt bytes 3)))))))
+      (λ _. table-number bytes given card-sound (byteAt bytes 3))
+      (λ _. flags-number bytes given card-sound (byteAt bytes 3)))))))
     where
       given : Card
       given = old .card
 
       Claim : Field → Type 0
       Claim = SameNumber bytes given
-
-      long : length (given .ram) ≡ cardWords
-      long = sound .whole-memory
 
   -- what a reading tells of the action's number
   abbrev Tells : Reading → Type 0

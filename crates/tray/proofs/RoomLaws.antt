@@ -10,6 +10,8 @@ use lib.Dec.{eqb}
 use lib.ListN.{length, drop, take-append-drop}
 use lib.Seq.{sets, sets-eq, length-take-le, drop-drop}
 use borrow.Author.Tests.{eqb-true}
+use Rattle.rules.proofs.Choices.{by-test}
+use Rattle.rules.proofs.Clash.{clash}
 use Rattle.queue.specs.Queue.{oldestWord}
 use Rattle.terminal.specs.Machine.{
   step,
@@ -24,7 +26,6 @@ use Rattle.recording.specs.declared.reading.Reading.the-variants.{Taken, End, R
 use Rattle.recording.specs.Bytes.{byteAt, wordAt}
 use Rattle.recording.specs.Field.{lengthFits, fieldAt}
 use Rattle.recording.specs.Reading.{readAt}
-use Rattle.recording.proofs.Choices.{by-test}
 use Rattle.recording.proofs.FieldLaws.{size-of-word, size-of-silence}
 use Rattle.recording.proofs.TakenLaws.{taken-tells, taken-within}
 use Rattle.lines.specs.Written.{stored, lineRoom, lineWritten}
@@ -199,7 +200,7 @@ module _ (window first : List ℕ) (room : wholeRoom (length window) ≤ length 
         (last-call-waits-not window true refl old first) (call-roomy .not-full)
       where
         go : (stop : Stop) → isGoing stop ≡ false → stop ≢ Hungry → stop ≢ Full → stop ≡ Over
-        go Going goes waits full = absurd (let z : _≡_ {A = ℕ} 0 1 = cc in omega arith)
+        go Going goes waits full = absurd (clash (cc))
         go Hungry goes waits full = absurd (waits refl)
         go Full goes waits full = absurd (full refl)
         go Over goes waits full = refl

@@ -8,6 +8,7 @@ use native.Mathlib.Omega.{arith}
 use lib.Dec.{leb, ltb}
 use lib.ListN.{length}
 use borrow.Author.Tests.{leb-true, ltb-true}
+use Rattle.rules.proofs.Halves.{first-of-both, second-of-both}
 use Rattle.card.specs.declared.place.Block.{Block}
 use Rattle.message.specs.declared.state.Stage.{Stage}
 use Rattle.message.specs.declared.state.Stage.the-variants.{
@@ -26,7 +27,6 @@ use Rattle.terminal.specs.State.{withMessage}
 use Rattle.recording.specs.declared.words.Found.{Found}
 use Rattle.recording.specs.declared.words.Found.the-variants.{Value, Nothing}
 use Rattle.recording.specs.AsCoded.Found.{wordFound}
-use Rattle.recording.proofs.Choices.{both-of}
 use Rattle.lines.specs.Written.{lineRoom, mostWords}
 use Rattle.tray.specs.declared.row.Row.{Row}
 use Rattle.tray.specs.declared.Ran.{Ran}
@@ -80,12 +80,13 @@ record Able (begun : Bool) (room most : ℕ) : Type 0 where
 able-tells : (begun : Bool) (room most : ℕ) → mayTakeRow begun room most ≡ true
     → Able begun room most
 able-tells begun room most is =
-    let first = both-of (begun && leb lineRoom room) (ltb mostWords most) is in
-    let second = both-of begun (leb lineRoom room) (first .0) in
+    let enough = leb lineRoom room in
+    let many = ltb mostWords most in
+    let to-enough = first-of-both (begun && enough) many is in
     record {
-      is-begun = second .0;
-      enough = leb-true lineRoom room (second .1);
-      many = ltb-true mostWords most (first .1);
+      is-begun = first-of-both begun enough to-enough;
+      enough = leb-true lineRoom room (second-of-both begun enough to-enough);
+      many = ltb-true mostWords most (second-of-both (begun && enough) many is);
     }
 
 -- no more are wanted than turns are left

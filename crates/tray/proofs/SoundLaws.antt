@@ -17,9 +17,9 @@ use Rattle.terminal.specs.Event.{
   tableMove,
   flagsWrite,
 }
-use Rattle.terminal_laws.proofs.FitParts.{FitCard, fit-card-parts, fit-card-whole}
-use Rattle.terminal_laws.proofs.FitLaws.{FitEvent, fit-stays-fit}
-use Rattle.terminal_laws.proofs.StepFrame.{step-writes-only}
+use Rattle.terminal_laws.specs.AtRest.{WholeAndFit}
+use Rattle.terminal_laws.proofs.FitLaws.{FitEvent}
+use Rattle.terminal_laws.proofs.RestLaws.{whole-and-fit-stays}
 use Rattle.actions.specs.Actions.{terminalAtSetup}
 use Rattle.actions.proofs.SetupLaws.{fit-at-setup}
 use Rattle.recording.specs.declared.field.Field.{Field}
@@ -37,7 +37,7 @@ use Rattle.recording.specs.Field.{isSetup}
 use Rattle.recording.specs.Reading.{readAt}
 use Rattle.recording.proofs.TakenLaws.{setup-by-turn}
 use Rattle.recording.proofs.InOrder.{InOrder, taken-in-order}
-use Rattle.tray.specs.Happening.{Happening, setup, event, happeningOf, happened}
+use Rattle.tray.specs.Happening.{happeningOf, happened}
 use Rattle.tray.specs.Run.{Tray, trayOver, taking}
 use Rattle.tray.specs.Sound.{SoundTray}
 
@@ -50,50 +50,50 @@ start-is-sound ram long =
 
 -- ---- a field
 
-happening-keeps-length : (told : Happening) (old : Card)
-    → length (happened told old .card .ram) ≡ length (old .ram)
-unfolding happened
-happening-keeps-length (setup station table flags) old = refl
-happening-keeps-length (event told) old = step-writes-only told old .same-length
-
--- a setup makes a fit terminal, and all else keeps it fit
-happening-is-fit : (bytes : List ℕ) (field : Field) (place next : ℕ) (old : Card)
-    → InOrder place next field → (isSetup field ≡ false → FitCard old)
-    → FitCard (happened (happeningOf bytes field) old .card)
+-- a setup makes a fit terminal, all else keeps the card fit, and the memory keeps its words
+happening-is-sound : (bytes : List ℕ) (field : Field) (place next : ℕ) (old : Card)
+    → InOrder place next field → length (old .ram) ≡ cardWords
+    → (isSetup field ≡ false → WholeAndFit old)
+    → WholeAndFit (happened (happeningOf bytes field) old .card)
 unfolding happened happeningOf FitEvent terminalAtSetup
-happening-is-fit bytes (Setup station table flags) place next old in-order fit =
-    fit-card-parts _
-    (fit-at-setup station (theBlock table) flags (in-order .station-at-most) (in-order .table-at-most)
-    (in-order .flags-at-most))
-happening-is-fit bytes (Word marks value time) place next old in-order fit =
-    fit-stays-fit (word _) old tt (fit refl)
-happening-is-fit bytes (Silence line time) place next old in-order fit =
-    fit-stays-fit (silence _ time) old tt (fit refl)
-happening-is-fit bytes QueueRead place next old in-order fit =
-    fit-stays-fit queueRead old tt (fit refl)
-happening-is-fit bytes (HostWrite address first count) place next old in-order fit =
-    fit-stays-fit (hostWrite address _) old tt (fit refl)
-happening-is-fit bytes (Table table) place next old in-order fit =
-    fit-stays-fit (tableMove (theBlock table)) old in-order (fit refl)
-happening-is-fit bytes (Flags flags) place next old in-order fit =
-    fit-stays-fit (flagsWrite flags) old in-order (fit refl)
+happening-is-sound bytes (Setup station table flags) place next old in-order long sound =
+    record {
+      whole-memory = long;
+      fit =
+          fit-at-setup station (theBlock table) flags (in-order .station-at-most)
+          (omega (arith, in-order .table-at-most)) (in-order .flags-at-most);
+    }
+happening-is-sound bytes (Word marks value time) place next old in-order long sound =
+    whole-and-fit-stays (word _) old tt (sound refl)
+happening-is-sound bytes (Silence line time) place next old in-order long sound =
+    whole-and-fit-stays (silence _ time) old tt (sound refl)
+happening-is-sound bytes QueueRead place next old in-order long sound =
+    whole-and-fit-stays queueRead old tt (sound refl)
+happening-is-sound bytes (HostWrite address first count) place next old in-order long sound =
+    whole-and-fit-stays (hostWrite address _) old tt (sound refl)
+happening-is-sound bytes (Table table) place next old in-order long sound =
+    whole-and-fit-stays (tableMove (theBlock table)) old (omega (arith, in-order)) (sound refl)
+happening-is-sound bytes (Flags flags) place next old in-order long sound =
+    whole-and-fit-stays (flagsWrite flags) old in-order (sound refl)
+
+-- once a setup has been read
+pub begun-is-whole-and-fit : {old : Tray} → SoundTray old → old .begun ≡ true
+    → WholeAndFit (old .card)
+begun-is-whole-and-fit sound begun =
+    record { whole-memory = sound .whole-memory; fit = sound .fit begun }
 
 module _ (bytes : List ℕ) (place : ℕ) (old : Tray) {field : Field} {next : ℕ}
-    (is : readAt bytes place (old .begun) ≡ Taken field next) where
+    (is : readAt bytes place (old .begun) ≡ Taken field next) (sound : SoundTray old) where
   -- a field that is no setup has one before it
-  pub begun-before : isSetup field ≡ false → old .begun ≡ true
-  begun-before other =
-      not-false (old .begun) (sym (setup-by-turn bytes place (old .begun) is) ∙ other)
+  pub sound-before : isSetup field ≡ false → WholeAndFit (old .card)
+  sound-before other =
+      begun-is-whole-and-fit sound
+      (not-false (old .begun) (sym (setup-by-turn bytes place (old .begun) is) ∙ other))
 
-  pub taking-is-sound : (size : ℕ) → SoundTray old
-      → SoundTray (taking bytes field size old)
+  pub taking-is-sound : (size : ℕ) → SoundTray (taking bytes field size old)
   unfolding taking
-  taking-is-sound size sound =
-      record {
-        whole-memory =
-            happening-keeps-length (happeningOf bytes field) (old .card) ∙ sound .whole-memory;
-        fit =
-            λ _. fit-card-whole (happening-is-fit bytes field place next (old .card)
-            (taken-in-order bytes place (old .begun) is)
-            (λ other. fit-card-parts (old .card) (sound .fit (begun-before other))));
-      }
+  taking-is-sound size =
+      let new =
+      happening-is-sound bytes field place next (old .card)
+      (taken-in-order bytes place (old .begun) is) (sound .whole-memory) sound-before in
+      record { whole-memory = new .whole-memory; fit = λ _. new .fit }

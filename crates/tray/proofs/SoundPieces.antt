@@ -36,7 +36,7 @@ module _ (window : List ℕ) (last : Bool) where
       → SoundTray (old .tray) → SoundTray (passing reading window last old .tray)
   unfolding passing takes
   passing-is-sound old (Taken field next) is sound =
-      taking-is-sound window (old .at) (old .tray) is (next - old .at) sound
+      taking-is-sound window (old .at) (old .tray) is sound (next - old .at)
   passing-is-sound old End is sound = sound
   passing-is-sound old (Refused number place) is sound = sound
 

@@ -1,11 +1,12 @@
 -- The laws of `specs/AsCoded/Window.antt`, as the code takes one field of a window. Assumes nothing.
-use mathlib.Core.Path.{_≡_, sym, ap, _∙_}
+use mathlib.Core.Path.{_≡_, refl, sym, ap, _∙_}
 use mathlib.Core.Bool.{Bool, true}
 use mathlib.Core.List.{List}
 use Prim.Native.Nat.{ℕ, _+_, _-_, _≤_, _<_, _%_, _^_}
 use native.Mathlib.Omega.{arith}
 use lib.ListN.{length}
 use borrow.Author.Tests.{lt-ltb, le-ltb}
+use Rattle.rules.proofs.Clash.{clash}
 use Rattle.terminal.specs.Event.{shown}
 use Rattle.recording.specs.declared.field.Field.{Field}
 use Rattle.recording.specs.declared.field.Field.the-variants.{HostWrite}
@@ -19,10 +20,18 @@ use Rattle.lines.specs.Written.{Put, put, lineRoom, lineWritten}
 use Rattle.tray.specs.declared.Happened.{Happened}
 use Rattle.tray.specs.declared.Ran.{Ran}
 use Rattle.tray.specs.declared.Stop.{Stop}
-use Rattle.tray.specs.declared.Stop.the-variants.{Going, Full, Over}
+use Rattle.tray.specs.declared.Stop.the-variants.{Going, Hungry, Full, Over}
 use Rattle.tray.specs.Happening.{happeningOf, happened}
 use Rattle.tray.specs.Run.{answerLine, taking, takingLine}
-use Rattle.tray.specs.AsCoded.Window.{Passed, stopped, stoppedAt, takes, passing, turn}
+use Rattle.tray.specs.AsCoded.Window.{
+  Passed,
+  stopped,
+  stoppedAt,
+  takes,
+  passing,
+  turn,
+  isGoing,
+}
 use Rattle.terminal.specs.State.{cardOf}
 use Rattle.tray.specs.AsCoded.Held.{passedOf, WordsThere, WasRead}
 
@@ -129,3 +138,11 @@ pub ruleset turning = (turn-full, turn-takes, turn-ends, turn-refuses)
 -- a last line that is printed
 pub over-line : {line line′ : Put} → line ≡ line′ → stopped line Over ≡ stopped line′ Over
 over-line is = ap (λ (left : Put). stopped left Over) is
+
+-- ---- a call that has not stopped
+
+pub going-is : (stop : Stop) → isGoing stop ≡ true → stop ≡ Going
+going-is Going is = refl
+going-is Hungry is = absurd (clash (cc))
+going-is Full is = absurd (clash (cc))
+going-is Over is = absurd (clash (cc))

@@ -2,7 +2,7 @@
 -- and leaves the rest to be done. Assumes nothing.
 use mathlib.Core.Path.{_≡_, refl, sym, ap, _∙_}
 use mathlib.Core.Logic.{_≢_}
-use mathlib.Core.Bool.{Bool, true, false, not, _&&_}
+use mathlib.Core.Bool.{Bool, true, false, true≢false, not, _&&_}
 use mathlib.Core.List.{List, [], _++_, append-assoc, append-nil}
 use Prim.Native.Nat.{ℕ, zero, suc, _+_, _-_, _≤_}
 use native.Mathlib.Omega.{arith}
@@ -180,10 +180,7 @@ module _ (window behind : List ℕ) where
         go true is-last = by-last (Refused number named) is-last is
         go false is-last =
             more-bytes-same-refusal (drop at window) behind 0 (old .begun) is
-            (λ five. clash (rw (is-last, five) at ends))
-          where
-            clash : true ≡ false → ⊥
-            clash differ = let z : _≡_ {A = ℕ} 0 1 = cc in omega arith
+            (λ five. true≢false (rw (is-last, five) at ends))
 
       passing-same : (reading : Reading) → lineRoom ≤ length out - place
           → readAt (drop at window) 0 (old .begun) ≡ reading

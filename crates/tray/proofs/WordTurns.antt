@@ -1,12 +1,13 @@
 -- A data word that the open message wants is stored (`word-is-stored`), which is a turn
 -- (`word-is-turn`), and a row of them is as many turns (`row-led`). Assumes nothing.
 use mathlib.Core.Path.{_≡_, refl, ap, _∙_}
-use mathlib.Core.Bool.{Bool, true, false, Bool·beq}
+use mathlib.Core.Bool.{Bool, true, false}
 use mathlib.Core.List.{List}
 use Prim.Native.Nat.{ℕ, zero, suc, _+_, _-_, _≤_, _<_}
 use native.Mathlib.Omega.{arith}
 use lib.ListN.{length}
 use borrow.Author.Tests.{lt-leb, le-ltb}
+use Rattle.rules.proofs.Cases.{beq-same}
 use Rattle.card.specs.Memory.{theCell, withCell}
 use Rattle.queue.specs.Queue.{queue}
 use Rattle.message.specs.declared.state.Stage.the-variants.{Data}
@@ -37,10 +38,6 @@ use Rattle.tray.specs.AsCoded.Row.{Stored, wordStored, rowFrom, rowStore
 use Rattle.tray.proofs.LineLaws.{nothing-written}
 
 -- ---- a word that is wanted
-
-beq-same : (line : Bool) → Bool·beq line line ≡ true
-beq-same true = refl
-beq-same false = refl
 
 -- a data word of the message is stored
 module _ (old : Card) (message : OpenMessage) (heard : Word)

@@ -5,6 +5,7 @@ use mathlib.Core.Logic.{_≢_}
 use mathlib.Core.List.{List, [], _∷_}
 use Prim.Native.Nat.{ℕ, _/_}
 use native.Mathlib.Omega.{arith}
+use Rattle.rules.proofs.Clash.{clash}
 use Rattle.bus.specs.declared.kind.Kind.the-variants.{Receive}
 use Rattle.bus.specs.Kind.{kindOf}
 use Rattle.bus.specs.declared.word.Word.{Word}
@@ -66,10 +67,10 @@ abbrev pub unsound : List Event
 unsound = word1 ∷ unsoundA 0x2222 0x50 ∷ []
 
 pub afresh-is-not-none : afresh ≡ none → ⊥
-afresh-is-not-none is = let clash : _≡_ {A = ℕ} 0 1 = cc in omega arith
+afresh-is-not-none is = clash (cc)
 
 pub keeping-is-not-none : keeping ≡ none → ⊥
-keeping-is-not-none is = let clash : _≡_ {A = ℕ} 0 1 = cc in omega arith
+keeping-is-not-none is = clash (cc)
 
 pub tray-command : (receiving sending : ℕ) → Receives command (chains receiving sending)
 unfolding runs chains

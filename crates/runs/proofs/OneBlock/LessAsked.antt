@@ -7,6 +7,7 @@ use mathlib.Core.List.{List, [], _∷_}
 use Prim.Native.Nat.{ℕ}
 use native.Mathlib.Omega.{arith}
 use lib.ListN.{getD}
+use Rattle.rules.proofs.Clash.{clash}
 use Rattle.queue.specs.declared.Queue.{Queue}
 use Rattle.message.specs.declared.state.Message.{Message}
 use Rattle.message.specs.declared.state.Message.the-variants.{Idle}
@@ -70,7 +71,7 @@ silent-too (status-but-error asks but) is = cc
 silent-too (last-but-error asks but) is = cc
 
 replied-is-not-silent : {status : ℕ} → Replied (Status status) ≡ Replied Silent → ⊥
-replied-is-not-silent is = let clash : _≡_ {A = ℕ} 0 1 = cc in omega arith
+replied-is-not-silent is = clash (cc)
 
 -- ---- of the command
 
@@ -192,9 +193,7 @@ NoSource Spent (event ∷ after) card =
 
 silent-sends-none : (status block count : ℕ)
     → Replied Silent ≡ Replied (Words status block count) → block ≡ 1 → ⊥
-silent-sends-none status block count is spent =
-    let clash : _≡_ {A = ℕ} 0 1 = cc in
-    omega arith
+silent-sends-none status block count is spent = clash (cc)
 
 -- a data word in cell 1 of the table is where the chain of subaddress 1 goes
 a-block-that-is-the-table-would-differ : Claim Receives Calm Settled NoSource SameAfter → ⊥

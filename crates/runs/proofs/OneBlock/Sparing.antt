@@ -1,10 +1,9 @@
 -- That a block is spared, by computation: it is never the table, nor a source of words sent.
 -- Assumes nothing.
 use mathlib.Core.Path.{_≡_, sym, ap, _∙_}
-use mathlib.Core.Bool.{Bool, true, false, not, _&&_}
+use mathlib.Core.Bool.{Bool, true, true≢false, not, _&&_}
 use mathlib.Core.List.{List, [], _∷_}
 use Prim.Native.Nat.{ℕ}
-use native.Mathlib.Omega.{arith}
 use lib.Dec.{eqb}
 use borrow.Author.Tests.{eq-eqb, not-true}
 use Rattle.rules.proofs.Halves.{first-of-both, second-of-both}
@@ -33,9 +32,7 @@ sparedFrom block (event ∷ after) card =
 
 another : (number block : ℕ) → not (eqb number block) ≡ true → number ≡ block → ⊥
 another number block other is =
-    let clash : true ≡ false = sym (eq-eqb number block is) ∙ not-true (eqb number block) other in
-    let numbers : _≡_ {A = ℕ} 0 1 = cc in
-    omega arith
+    true≢false (sym (eq-eqb number block is) ∙ not-true (eqb number block) other)
 
 from-another : (block : ℕ) (answer : Answer) → sendsOther block answer ≡ true
     → (status source count : ℕ) → answer ≡ Replied (Words status source count)

@@ -3,8 +3,6 @@
 -- and after another message nothing differs. Assumes nothing.
 use mathlib.Core.Path.{_≡_, refl}
 use mathlib.Core.List.{List, [], _∷_}
-use Prim.Native.Nat.{ℕ}
-use native.Mathlib.Omega.{arith}
 use Rattle.bus.specs.declared.word.Word.{Word}
 use Rattle.terminal.specs.declared.state.Reply.the-variants.{Silent, Status}
 use Rattle.terminal.specs.State.{Card}
@@ -13,8 +11,6 @@ use Rattle.terminal.specs.Event.{
   word,
   queueRead,
   hostWrite,
-  none,
-  afresh,
   replied,
   queueWord,
 }
@@ -30,6 +26,7 @@ use Rattle.terminal_laws.specs.OneBlock.{
   BrokenMessage,
 }
 use Rattle.terminal_laws.proofs.OneBlock.Theorem.{one-block}
+use Rattle.runs.proofs.OneBlock.Claim.{afresh-is-not-none}
 use Rattle.runs.proofs.OneBlock.Sparing.{sparedFrom, spared-from}
 use Rattle.runs.proofs.Telling.{
   runs,
@@ -69,15 +66,12 @@ after =
 
 -- ---- all that is asked holds
 
-opened-is-not-none : afresh ≡ none → ⊥
-opened-is-not-none is = let clash : _≡_ {A = ℕ} 0 1 = cc in omega arith
-
 pub all-holds : BrokenMessage met command sound unsound after
 unfolding runs met ThatBlock sparedFrom
 all-holds =
     record {
       receives = refl;
-      opens = opened-is-not-none;
+      opens = afresh-is-not-none;
       calm-one = a-word refl (a-word refl (a-silence nothing));
       calm-two = a-word refl (a-word refl (a-silence nothing));
       settled = closed refl refl;

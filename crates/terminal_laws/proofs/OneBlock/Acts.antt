@@ -4,7 +4,8 @@ use mathlib.Core.Path.{_≡_, refl}
 use mathlib.Core.Logic.{_≢_}
 use mathlib.Core.Bool.{Bool, true, false, cond, not, Bool·beq, or-true}
 use Prim.Native.Nat.{ℕ}
-use native.Mathlib.Omega.{arith}
+use Rattle.rules.proofs.Choices.{by-test}
+use Rattle.rules.proofs.Clash.{clash}
 use Rattle.message.specs.declared.asked.Asked.{Asked}
 use Rattle.message.specs.declared.judge.WordAct.{WordAct}
 use Rattle.message.specs.declared.judge.WordAct.the-variants.{
@@ -49,8 +50,8 @@ unfolding openedBy
 opens-something asked = go (asked .fresh)
   where
     go : (fresh : Bool) → cond fresh afresh keeping ≡ none → ⊥
-    go true is = let clash : _≡_ {A = ℕ} 0 1 = cc in omega arith
-    go false is = let clash : _≡_ {A = ℕ} 0 1 = cc in omega arith
+    go true is = clash (cc)
+    go false is = clash (cc)
 
 -- acts that open nothing
 data OpensNothing : WordAct → Type 0 where
@@ -64,8 +65,7 @@ data OpensNothing : WordAct → Type 0 where
 no-opening-if : {test : Bool} {act other : WordAct}
     → (test ≡ true → OpensNothing act) → (test ≡ false → OpensNothing other)
     → OpensNothing (cond test act other)
-no-opening-if {test = true} holds fails = holds refl
-no-opening-if {test = false} holds fails = fails refl
+no-opening-if {test} holds fails = by-test OpensNothing test holds fails
 
 ruleset no-opening = (
   no-opening-ignore,

@@ -4,15 +4,16 @@
 use mathlib.Core.Path.{_≡_, refl, sym, subst, _∙_}
 use mathlib.Core.Bool.{Bool, true, false}
 use mathlib.Core.List.{List, [], _∷_}
-use Prim.Native.Nat.{ℕ, suc, _+_, _≤_, _<_}
+use Prim.Native.Nat.{ℕ, suc, _≤_, _<_}
 use native.Mathlib.Omega.{arith}
 use native.Mathlib.Decide.{ℕ-discrete, decLt}
-use lib.ListN.{length, getD, set, take, drop, length-set, length-take, length-drop}
-use lib.Seq.{getD-set-same, getD-set-other, set-out, sets, ext-getD, getD-take, getD-drop}
+use lib.ListN.{length, getD, set, take, drop, length-set}
+use lib.Seq.{getD-set-same, getD-set-other, set-out, sets}
 use Rattle.card.specs.declared.place.Block.{Block}
 use Rattle.card.specs.declared.place.Cell.{Cell}
 use Rattle.card.specs.Memory.{
   blockCells,
+  dataCells,
   theCell,
   wordAddress,
   cellAt,
@@ -21,6 +22,7 @@ use Rattle.card.specs.Memory.{
   withLink,
 }
 use Rattle.card.proofs.MemoryLaws.{same-block, with-cell-inside, with-cell-past}
+use Rattle.card.proofs.CellLaws.{part-of-same-cells}
 use Rattle.card.proofs.Frame.{Keeps, cell-keeps, service-keeps}
 use Rattle.terminal.specs.Closing.{linked}
 use Rattle.terminal_laws.specs.OneBlock.{Kept}
@@ -174,29 +176,18 @@ module _ {Spent : Block → Type 0} where
 
   -- ---- reading
 
-  -- the words that a block sends
-  pub same-part : {ram other : List ℕ} (block : Block) (count : ℕ) → (Spent block → ⊥) → count ≤ 32
-      → Agree Spent ram other
-      → take count (drop (wordAddress block (theCell 0)) ram)
-      ≡ take count (drop (wordAddress block (theCell 0)) other)
-  same-part {ram} {other} block count unspent low agree =
-      let start = wordAddress block (theCell 0) in
-      ext-getD 0 (take count (drop start ram)) (take count (drop start other))
-      (simp (length-take, length-drop, agree .long))
-      (λ place inside.
-      let below : place < count = omega (arith, simp length-take at inside) in
-      rw (
-        getD-take count (drop start ram) place 0 below,
-        getD-take count (drop start other) place 0 below,
-        getD-drop start ram place 0,
-        getD-drop start other place 0,
-      )
-      (agree .cell (start + place)
-      (subst (Kept Spent) (omega arith) (unspent-kept block (theCell place) unspent (omega arith)))))
-
-  -- a table cell
+  -- a cell of a block that was not spent, as one of the table
   pub same-entry : {ram other : List ℕ} (table : Block) (cell : Cell) → (Spent table → ⊥)
       → cell .0 < blockCells → Agree Spent ram other → cellAt ram table cell ≡ cellAt other table cell
   unfolding cellAt
   same-entry table cell unspent inside agree =
       agree .cell (wordAddress table cell) (unspent-kept table cell unspent inside)
+
+  -- the words that a block sends
+  pub same-part : {ram other : List ℕ} (block : Block) (count : ℕ) → (Spent block → ⊥)
+      → count ≤ dataCells → Agree Spent ram other
+      → take count (drop (wordAddress block (theCell 0)) ram)
+      ≡ take count (drop (wordAddress block (theCell 0)) other)
+  same-part {ram} {other} block count unspent low agree =
+      part-of-same-cells ram other block count (agree .long)
+      (λ cell below. same-entry block cell unspent (omega arith) agree)

@@ -5,6 +5,8 @@ use mathlib.Core.Bool.{Bool, true, false, cond, not, _&&_}
 use Prim.Native.Nat.{ℕ, _≤_}
 use native.Mathlib.Omega.{arith}
 use lib.Dec.{eqb}
+use Rattle.rules.proofs.Choices.{by-test}
+use Rattle.rules.proofs.Clash.{clash}
 use Rattle.bus.specs.declared.kind.Kind.{Kind}
 use Rattle.bus.specs.declared.kind.Kind.the-variants.{ModeStatus, ModeLast}
 use Rattle.bus.specs.Kind.{kindOf}
@@ -108,11 +110,8 @@ data AtMost32 : Answer → Type 0 where
       → AtMost32 (Replied (Words status block count))
   a-queue-word : {oldest : ℕ} → AtMost32 (QueueWord oldest)
 
-at-most-if : (test : Bool) {reply other : Reply}
-    → AtMost32 (Replied reply) → AtMost32 (Replied other)
-    → AtMost32 (Replied (cond test reply other))
-at-most-if true first second = first
-at-most-if false first second = second
+abbrev Given : Reply → Type 0
+Given reply = AtMost32 (Replied reply)
 
 at-most-done : (act : SilenceAct) (message : OpenMessage) (time : ℕ) (old : Card)
     → AtMost32 (silenceDone act (asks message) message time old .answer)
@@ -122,10 +121,10 @@ at-most-done AwaitStatus message time old = silent
 at-most-done (Fault code) message time old = silent
 at-most-done End message time old =
     let asked = asks message in
-    at-most-if (not (replies (old .core) message)) silent
-    (at-most-if (asked .last) a-last
-    (at-most-if (eqb (unlessBusy asked message (asked .sends)) 0) a-status
-    (some-words (sends-at-most (message .command)))))
+    by-test Given (not (replies (old .core) message)) (λ _. silent) (λ _.
+    by-test Given (asked .last) (λ _. a-last) (λ _.
+    by-test Given (eqb (unlessBusy asked message (asked .sends)) 0) (λ _. a-status) (λ _.
+    some-words (sends-at-most (message .command)))))
 
 at-most-silence : (message : Message) (line : Bool) (time : ℕ) (old : Card)
     → AtMost32 (silenceMet message line time old .answer)
@@ -144,13 +143,13 @@ at-most-answer (flagsWrite flags) old = silent
 
 at-most-count : {answer : Answer} {status : ℕ} {block : Block} {count : ℕ} → AtMost32 answer
     → answer ≡ Replied (Words status block count) → count ≤ 32
-at-most-count silent is = let clash : _≡_ {A = ℕ} 0 1 = cc in omega arith
-at-most-count a-status is = let clash : _≡_ {A = ℕ} 0 1 = cc in omega arith
-at-most-count a-last is = let clash : _≡_ {A = ℕ} 0 1 = cc in omega arith
+at-most-count silent is = absurd (clash (cc))
+at-most-count a-status is = absurd (clash (cc))
+at-most-count a-last is = absurd (clash (cc))
 at-most-count {count = count} (some-words {count = sent} fits) is =
     let same : sent ≡ count = cc in
     omega arith
-at-most-count a-queue-word is = let clash : _≡_ {A = ℕ} 0 1 = cc in omega arith
+at-most-count a-queue-word is = absurd (clash (cc))
 
 pub sent-at-most : (event : Event) (old : Card) (status : ℕ) (block : Block) (count : ℕ)
     → step event old .answer ≡ Replied (Words status block count) → count ≤ 32

@@ -19,7 +19,7 @@ use Rattle.bus.specs.declared.kind.Kind.the-variants.{
 use Rattle.bus.specs.Kind.{kindOf}
 use Rattle.bus.specs.Status.{withError}
 use Rattle.card.specs.declared.place.Block.{Block}
-use Rattle.card.specs.Memory.{cellAt, withService}
+use Rattle.card.specs.Memory.{withService}
 use Rattle.card.specs.Time.{ticksOf}
 use Rattle.queue.specs.declared.Queue.{Queue}
 use Rattle.message.specs.declared.asked.Asked.{Asked}
@@ -31,7 +31,13 @@ use Rattle.message.specs.Asked.{askedBy, askedOf}
 use Rattle.message.proofs.AskedBounds.{cell-in-table}
 use Rattle.terminal.specs.declared.state.Core.{Core}
 use Rattle.terminal.specs.State.{Card, card, withStatus, withSwitches, withLast, withMessage}
-use Rattle.terminal.specs.Opening.{openedMessage, openedStatus, openedCore, opening}
+use Rattle.terminal.specs.Opening.{
+  openedMessage,
+  openedStatus,
+  openedCore,
+  entryAt,
+  opening,
+}
 use Rattle.terminal.specs.Closing.{
   linked,
   closedRam,
@@ -149,7 +155,7 @@ module _ {Spent : Block → Type 0} {before : Bool} (core : Core) (status : ℕ)
   unfolding opening openedCore openedMessage withStatus withLast withMessage
   related-opened word unspent statuses =
       let asked = askedOf (word .value) in
-      let entry = cellAt ram (core .table) (asked .cell) in
+      let entry = entryAt word core ram in
       record {
         status = openedStatus asked entry word (withStatus status core);
         core =

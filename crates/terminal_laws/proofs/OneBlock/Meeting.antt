@@ -5,7 +5,7 @@ use mathlib.Core.Logic.{_≢_}
 use mathlib.Core.Bool.{Bool, true, false, cond}
 use mathlib.Core.List.{List, _∷_}
 use Prim.Native.Nat.{ℕ}
-use native.Mathlib.Omega.{arith}
+use Rattle.rules.proofs.Clash.{clash}
 use Rattle.bus.specs.declared.kind.Kind.the-variants.{Receive}
 use Rattle.bus.specs.Kind.{kindOf}
 use Rattle.bus.specs.Status.{withoutError}
@@ -100,7 +100,7 @@ pub data Meet (Spent : Block → Type 0) (here there : Card) : List Event → Ty
       → Meet Spent here there (word command ∷ after)
 
 open-is-not-idle : {message : OpenMessage} → Open message ≡ Idle → ⊥
-open-is-not-idle is = let clash : _≡_ {A = ℕ} 0 1 = cc in omega arith
+open-is-not-idle is = clash (cc)
 
 module _ {Spent : Block → Type 0} {before : Bool} (start start′ : Card) (message : OpenMessage)
     (related : Related Spent before start start′) where

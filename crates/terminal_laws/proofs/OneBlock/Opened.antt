@@ -18,12 +18,9 @@ use Rattle.message.specs.declared.state.OpenMessage.{OpenMessage}
 use Rattle.message.specs.declared.state.Message.{Message}
 use Rattle.message.specs.declared.state.Message.the-variants.{Idle, Open}
 use Rattle.bus.specs.declared.word.Word.{Word}
-use Rattle.message.specs.declared.asked.Asked.{Asked}
-use Rattle.message.specs.Asked.{askedOf, asks}
-use Rattle.card.specs.Memory.{cellAt}
+use Rattle.message.specs.Asked.{asks}
 use Rattle.message.specs.Words.{ownCommand, onWord}
 use Rattle.terminal.specs.State.{Card}
-use Rattle.terminal.specs.Opening.{opening, openedMessage}
 use Rattle.terminal.specs.Event.{word, none, quietly, opens}
 use Rattle.terminal.specs.WordStep.{wordDone, wordMet, wordStep}
 use Rattle.terminal.specs.Machine.{step}
@@ -68,10 +65,3 @@ pub word-opens : (command : Word) (old : Card) → step (word command) old .open
     → Opening command old
 unfolding step wordStep
 word-opens command old opening = met-opens (old .core .message) command old opening refl
-
--- the message that a command opens
-abbrev pub openedAs : Word → Card → OpenMessage
-openedAs command old =
-    let asked : Asked = askedOf (command .value) in
-    openedMessage asked (cellAt (old .ram) (old .core .table) (asked .cell)) command
-    (old .core)

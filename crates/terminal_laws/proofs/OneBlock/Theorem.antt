@@ -15,7 +15,7 @@ use Rattle.bus.specs.declared.word.Word.{Word}
 use Rattle.message.specs.Message.{further}
 use Rattle.terminal.specs.declared.state.Core.{Core}
 use Rattle.terminal.specs.State.{Card, card, withStatus, withMessage}
-use Rattle.terminal.specs.Opening.{opening, openedCore, openedMessage}
+use Rattle.terminal.specs.Opening.{openedMessage, openedCore, openedAs, opening}
 use Rattle.terminal.specs.Event.{Event, word, Outcome, opens}
 use Rattle.terminal.specs.Machine.{step, run}
 use Rattle.terminal_laws.specs.OneBlock.{
@@ -30,7 +30,7 @@ use Rattle.terminal_laws.proofs.OneBlock.Agreement.{agree-refl}
 use Rattle.terminal_laws.proofs.OneBlock.Relation.{Related, related-self, related-alike}
 use Rattle.terminal_laws.proofs.OneBlock.Stretch.{Span, is-open, span-run}
 use Rattle.terminal_laws.proofs.OneBlock.Meeting.{both-gone, stretches-meet, meet-later}
-use Rattle.terminal_laws.proofs.OneBlock.Opened.{word-opens, openedAs}
+use Rattle.terminal_laws.proofs.OneBlock.Opened.{word-opens}
 
 -- ---- from an open data receive on
 
@@ -77,7 +77,8 @@ pub one-block : (old : Card) (command : Word) (one two after : List Event)
 unfolding run opening openedCore openedMessage withMessage ThatBlock
 one-block old command one two after broken =
     let opened = word-opens command old (broken .opens) in
-    let held : OpenMessage = openedAs command (opened .left) in
+    let left : Card = opened .left in
+    let held : OpenMessage = openedAs command (left .core) (left .ram) in
     let is : step (word command) old .card .core .message ≡ Open held =
     ap (λ (outcome : Outcome). outcome .card .core .message) (opened .is) in
     let start = step (word command) old .card in

@@ -1,7 +1,7 @@
 -- What holds of each way that a definition by tests can take holds of what it gives. Assumes
 -- nothing.
 use mathlib.Core.Path.{_≡_, refl}
-use mathlib.Core.Bool.{Bool, true, false, cond, _&&_}
+use mathlib.Core.Bool.{Bool, true, false, cond}
 
 module _ {A : Type 0} where
   -- a claim of a choice, by the test
@@ -24,11 +24,3 @@ pub choice-under : {A B : Type 0} (change : A → B) {taken left : A} {taken′ 
     → cond test taken′ left′ ≡ change (cond test taken left)
 choice-under change true same-taken same-left = same-taken
 choice-under change false same-taken same-left = same-left
-
--- a test made of two
-pub both-of : (first second : Bool) → (first && second) ≡ true → (first ≡ true) × (second ≡ true)
-both-of true second both = (refl, both)
-both-of false second both = (both, go second both) where
-  go : (any : Bool) → false ≡ true → any ≡ true
-  go true is = refl
-  go false is = is
