@@ -7,7 +7,7 @@ use mathlib.Core.List.{List, [], _∷_, _++_}
 use Prim.Native.Nat.{ℕ, zero, suc}
 use native.Mathlib.Omega.{arith}
 use lib.ListN.{drop, replicate}
-use Rattle.card.specs.Memory.{cardWords}
+use Rattle.card.specs.Memory.{cardWords, theBlock}
 use Rattle.queue.specs.Queue.{emptyQueue}
 use Rattle.terminal.specs.State.{card, coreAtSetup}
 use Rattle.actions.specs.Actions.{After}
@@ -120,7 +120,7 @@ abbrev stationed : ℕ → Tray
 stationed station =
     record {
       begun = true;
-      card = card (coreAtSetup station 1 0) emptyQueue (replicate cardWords 0);
+      card = card (coreAtSetup station (theBlock 1) 0) emptyQueue (replicate cardWords 0);
       fields = 1;
       offset = 6;
     }

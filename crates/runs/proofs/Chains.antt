@@ -1,7 +1,7 @@
 -- The chain rule and what an event may write, at work on a card of four blocks: document 01's tray
 -- run, sound and broken. And claims that ask less or say more, each false by a run that the checker
 -- computes. Assumes nothing.
-use mathlib.Core.Path.{_≡_, refl}
+use mathlib.Core.Path.{_≡_, refl, ap}
 use mathlib.Core.Logic.{_≢_}
 use mathlib.Core.Bool.{Bool, true, false}
 use mathlib.Core.List.{List, [], _∷_}
@@ -9,7 +9,9 @@ use Prim.Native.Nat.{ℕ, _%_, _<_}
 use native.Mathlib.Omega.{arith}
 use lib.ListN.{length, replicate}
 use Rattle.rules.proofs.Clash.{clash}
-use Rattle.card.specs.Memory.{blockCells, cellAt}
+use Rattle.card.specs.declared.place.Block.{Block}
+use Rattle.card.specs.declared.place.Cell.{Cell}
+use Rattle.card.specs.Memory.{blockCells, theBlock, theCell, cellAt}
 use Rattle.card.specs.TableWord.{blockOf}
 use Rattle.message.specs.declared.state.Second.the-variants.{Absent}
 use Rattle.message.specs.declared.state.Stage.the-variants.{Data}
@@ -63,7 +65,7 @@ use Rattle.runs.proofs.Telling.{
 unfoldable small : ℕ → List Event → Card
 small words events =
     run events
-    (card (coreAtSetup 5 1 0) emptyQueue (replicate words 0))
+    (card (coreAtSetup 5 (theBlock 1) 0) emptyQueue (replicate words 0))
 
 -- four blocks: table cell 3 names block 2, whose link is 4003
 abbrev fourBlocks : List Event → Card
@@ -76,8 +78,8 @@ received moved taken =
     record {
       command = 0x2862;
       line = false;
-      block = 2;
-      home = 1;
+      block = theBlock 2;
+      home = theBlock 1;
       moved = moved;
       busy = false;
       queued = true;
@@ -131,19 +133,21 @@ by-the-same-command =
     }
 
 -- cell 67 gets 4003
-the-table-cell-gets-the-link : cellAt (step quiet filled .card .ram) 1 3 ≡ 0x4003
+the-table-cell-gets-the-link :
+    cellAt (step quiet filled .card .ram) (theBlock 1) (theCell 3) ≡ 0x4003
 unfolding runs small
 the-table-cell-gets-the-link = chain-moves-on filled (received false 2) quiet at-the-sound-end
 
 -- after the fault too
-a-fault-takes-the-chain-on : cellAt (step (unsoundA 0x2222 0x50) begun .card .ram) 1 3 ≡ 0x4003
+a-fault-takes-the-chain-on :
+    cellAt (step (unsoundA 0x2222 0x50) begun .card .ram) (theBlock 1) (theCell 3) ≡ 0x4003
 unfolding runs small
 a-fault-takes-the-chain-on =
     chain-moves-on begun (received false 1) (unsoundA 0x2222 0x50) at-a-fault
 
 -- what is asked of the command that opens
 by-table-cell-3 : (old : Card) → step (word again) old .opened ≡ afresh
-    → old .core .table ≡ 1 → (taken : ℕ) → OpensBy (received false taken) again old
+    → old .core .table ≡ theBlock 1 → (taken : ℕ) → OpensBy (received false taken) again old
 unfolding runs
 by-table-cell-3 old opens same-table taken =
     record {
@@ -154,7 +158,7 @@ by-table-cell-3 old opens same-table taken =
     }
 
 -- 4003 names block 3
-the-block-of-4003 : blockOf 0x4003 ≡ 3
+the-block-of-4003 : blockOf 0x4003 ≡ theBlock 3
 the-block-of-4003 = refl
 
 -- the next opening takes it, with a queue read between
@@ -211,7 +215,8 @@ a-table-that-was-set-would-differ : Chains AnyTable (λ link. link) → ⊥
 unfolding runs small
 a-table-that-was-set-would-differ claim =
     let differs : _≡_ {A = ℕ} 0x4002 0x4003 =
-    claim (fourBlocks (receive ∷ tableMove 1 ∷ word1 ∷ word2 ∷ [])) (received true 2) quiet
+    claim (fourBlocks (receive ∷ tableMove (theBlock 1) ∷ word1 ∷ word2 ∷ [])) (received true 2)
+    quiet
     (record {
       with-block = record { is-open = refl; has-block = refl };
       closes = by-sound-end refl;
@@ -241,20 +246,22 @@ an-event-that-does-not-close-would-differ claim =
 
 -- the table cell is one that a closing writes, in another block
 cells-elsewhere-would-differ :
-    ((event : Event) (old : Card) (message : OpenMessage) (block cell : ℕ)
-    → old .core .message ≡ Open message → OnBus event → block ≢ message .block → cell < blockCells
+    ((event : Event) (old : Card) (message : OpenMessage) (block : Block) (cell : Cell)
+    → old .core .message ≡ Open message → OnBus event → block ≢ message .block
+    → cell .0 < blockCells
     → cellAt (step event old .card .ram) block cell ≡ cellAt (old .ram) block cell)
     → ⊥
 unfolding runs small
 cells-elsewhere-would-differ claim =
     let differs : _≡_ {A = ℕ} 0x4003 0x4002 =
-    claim quiet filled (received false 2) 1 3 refl a-silence (λ same. omega arith) (omega arith) in
+    claim quiet filled (received false 2) (theBlock 1) (theCell 3) refl a-silence
+    (λ same. omega (arith, ap (λ (block : Block). block .0) same)) (omega arith) in
     omega arith
 
 -- where the block is the table, the table cell is one of its other cells: subaddress 3 transmits
 -- from block 1 by cell 35
 other-cells-would-differ :
-    ((event : Event) (old : Card) (message : OpenMessage) (cell : ℕ)
+    ((event : Event) (old : Card) (message : OpenMessage) (cell : Cell)
     → old .core .message ≡ Open message → OnBus event → OtherCell cell
     → cellAt (step event old .card .ram) (message .block) cell
     ≡ cellAt (old .ram) (message .block) cell)
@@ -265,8 +272,8 @@ other-cells-would-differ claim =
     record {
       command = 0x2C62;
       line = false;
-      block = 1;
-      home = 1;
+      block = theBlock 1;
+      home = theBlock 1;
       moved = false;
       busy = false;
       queued = false;
@@ -276,8 +283,8 @@ other-cells-would-differ claim =
       stage = Data;
     } in
     let differs : _≡_ {A = ℕ} 0x4003 0x0001 =
-    claim quiet (small 256 (put 1 35 0x0001 ∷ put 1 63 0x4003 ∷ transmit ∷ [])) sends 35 refl
-    a-silence
+    claim quiet (small 256 (put 1 35 0x0001 ∷ put 1 63 0x4003 ∷ transmit ∷ [])) sends (theCell 35)
+    refl a-silence
     (record {
       no-data-cell = omega arith;
       no-service-cell = λ from to. omega arith;

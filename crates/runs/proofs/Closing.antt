@@ -3,6 +3,7 @@
 use mathlib.Core.Path.{_≡_, refl}
 use mathlib.Core.List.{List, [], _∷_, _++_}
 use Prim.Native.Nat.{ℕ}
+use Rattle.card.specs.Memory.{theBlock}
 use Rattle.terminal.specs.declared.state.Reply.the-variants.{Status}
 use Rattle.terminal.specs.Event.{Event, queueRead, tableMove, replied, queueWord}
 use Rattle.runs.proofs.Telling.{
@@ -64,7 +65,7 @@ a-host-write-into-the-table-cell-is-overwritten = refl
 -- ---- the host sets the table block
 
 abbrev moved : ℕ → List Event
-moved table = receive ∷ tableMove table ∷ word1 ∷ word2 ∷ quiet ∷ []
+moved table = receive ∷ tableMove (theBlock table) ∷ word1 ∷ word2 ∷ quiet ∷ []
 
 -- unless the host has set the table block since: neither in block 1 nor in block 12
 after-a-table-move-no-link-is-stored : cellAfter (moved 12) 1 3 ∷ cellAfter (moved 12) 12 3 ∷ []
@@ -96,13 +97,14 @@ after-a-table-move-the-reply-is-given = refl
 
 -- a fault closes like a sound end
 a-fault-after-a-table-move-stores-no-link :
-    cellAfter (receive ∷ tableMove 12 ∷ unsoundA 0x1111 0x3C ∷ []) 1 3
+    cellAfter (receive ∷ tableMove (theBlock 12) ∷ unsoundA 0x1111 0x3C ∷ []) 1 3
     ≡ 0x4002
 unfolding runs
 a-fault-after-a-table-move-stores-no-link = refl
 
 -- only a setting since the opening counts
-a-move-before-the-opening-counts-for-nothing : cellAfter (tableMove 1 ∷ received) 1 3 ≡ 0x4003
+a-move-before-the-opening-counts-for-nothing :
+    cellAfter (tableMove (theBlock 1) ∷ received) 1 3 ≡ 0x4003
 unfolding runs
 a-move-before-the-opening-counts-for-nothing = refl
 
@@ -115,8 +117,8 @@ a-move-holds-back-one-message-alone = refl
 
 -- table block 12: its cell 3, and not that of block 1
 the-link-goes-into-the-table-of-the-opening :
-    cellAfter (tableMove 12 ∷ put 12 3 0x4002 ∷ received) 12 3
-    ∷ cellAfter (tableMove 12 ∷ put 12 3 0x4002 ∷ received) 1 3
+    cellAfter (tableMove (theBlock 12) ∷ put 12 3 0x4002 ∷ received) 12 3
+    ∷ cellAfter (tableMove (theBlock 12) ∷ put 12 3 0x4002 ∷ received) 1 3
     ∷ []
     ≡ 0x4003 ∷ 0x4002 ∷ []
 unfolding runs

@@ -3,6 +3,7 @@
 -- Assumes nothing.
 use mathlib.Core.Path.{_≡_, refl}
 use mathlib.Core.List.{List, [], _∷_, _++_}
+use Rattle.card.specs.Memory.{theBlock}
 use Rattle.terminal.specs.declared.state.Reply.the-variants.{Words}
 use Rattle.terminal.specs.Event.{Event, queueRead, flagsWrite, replied, queueWord}
 use Rattle.runs.proofs.Telling.{
@@ -45,7 +46,8 @@ unfolding runs
 after-a-drop-the-new-message-is-open = refl
 
 -- the new message ends as usual
-after-a-drop-the-words-are-sent : answerTo (dropped ++ quiet ∷ []) ≡ replied (Words 0x2800 10 2)
+after-a-drop-the-words-are-sent :
+    answerTo (dropped ++ quiet ∷ []) ≡ replied (Words 0x2800 (theBlock 10) 2)
 unfolding runs
 after-a-drop-the-words-are-sent = refl
 

@@ -4,6 +4,7 @@ use mathlib.Core.Path.{_≡_, refl}
 use mathlib.Core.List.{List, [], _∷_, _++_}
 use Prim.Native.Nat.{ℕ}
 use lib.ListN.{replicate}
+use Rattle.card.specs.Memory.{theBlock}
 use Rattle.terminal.specs.declared.state.Reply.the-variants.{Silent, Status}
 use Rattle.terminal.specs.State.{card, withStatus, withLast, coreAtSetup}
 use Rattle.terminal.specs.Event.{Event, flagsWrite, replied}
@@ -114,7 +115,8 @@ the-silence-is-answered-by-the-status-alone = refl
 
 -- no memory is written and no queue joined
 an-illegal-message-has-no-block : cardAfter (skipped ++ silenceA 0x8C ∷ [])
-    ≡ card (withStatus 0x2C00 (withLast 0x2C09 (coreAtSetup 5 1 0))) (chained .queue) (chained .ram)
+    ≡ card (withStatus 0x2C00 (withLast 0x2C09 (coreAtSetup 5 (theBlock 1) 0)))
+    (chained .queue) (chained .ram)
 unfolding runs
 an-illegal-message-has-no-block = refl
 

@@ -4,6 +4,7 @@ use mathlib.Core.Path.{_≡_, refl}
 use mathlib.Core.List.{List, [], _∷_, _++_}
 use Prim.Native.Nat.{ℕ}
 use lib.ListN.{replicate}
+use Rattle.card.specs.Memory.{theBlock}
 use Rattle.terminal.specs.declared.state.Reply.the-variants.{Silent, Status, Words, Last}
 use Rattle.terminal.specs.Event.{Event, queueRead, flagsWrite, replied, queueWord}
 use Rattle.runs.proofs.Telling.{
@@ -65,13 +66,13 @@ codes-0-to-8-at-subaddress-31-too = refl
 
 -- code 16 sends one word, by table cell 32
 code-16-sends-cell-0-of-block-6 : answerTo (commandA 0x2C10 0x28 ∷ quiet ∷ [])
-    ≡ replied (Words 0x2800 6 1)
+    ≡ replied (Words 0x2800 (theBlock 6) 1)
 unfolding runs
 code-16-sends-cell-0-of-block-6 = refl
 
 -- code 19 sends one word, by table cell 63
 code-19-sends-cell-0-of-block-8 : answerTo (commandA 0x2C13 0x28 ∷ quiet ∷ [])
-    ≡ replied (Words 0x2800 8 1)
+    ≡ replied (Words 0x2800 (theBlock 8) 1)
 unfolding runs
 code-19-sends-cell-0-of-block-8 = refl
 
@@ -205,14 +206,14 @@ code-17-stores-its-word-under-busy = refl
 
 -- the status says busy, and the word is sent
 code-16-sends-its-word-under-busy : answerTo (flagsWrite 2 ∷ commandA 0x2C10 0x28 ∷ quiet ∷ [])
-    ≡ replied (Words 0x2808 6 1)
+    ≡ replied (Words 0x2808 (theBlock 6) 1)
 unfolding runs
 code-16-sends-its-word-under-busy = refl
 
 -- busy by flag 1 and by bit 15 of its table word: status bit 3, and the word is sent
 code-19-sends-its-word-under-busy :
     answerTo (byFlag ++ alone 0x2C13) ∷ answerTo (byTable ++ alone 0x2C13) ∷ []
-    ≡ replicate 2 (replied (Words 0x2808 8 1))
+    ≡ replicate 2 (replied (Words 0x2808 (theBlock 8) 1))
 unfolding runs
 code-19-sends-its-word-under-busy = refl
 
@@ -316,6 +317,6 @@ bus-control-is-given-to-code-0-alone = refl
 
 -- count 0, as code 0, but subaddress 3
 bus-control-is-not-given-to-a-transmit-command : repliesAfter (flagsWrite 16 ∷ []) (0x2C60 ∷ [])
-    ≡ replied (Words 0x2800 10 32) ∷ []
+    ≡ replied (Words 0x2800 (theBlock 10) 32) ∷ []
 unfolding runs
 bus-control-is-not-given-to-a-transmit-command = refl

@@ -3,6 +3,7 @@
 use mathlib.Core.Path.{_≡_, refl}
 use mathlib.Core.Bool.{true, false}
 use mathlib.Core.List.{[], _∷_}
+use Rattle.card.specs.Memory.{theBlock}
 use Rattle.message.specs.declared.state.Stage.the-variants.{Data}
 use Rattle.message.specs.declared.state.Second.the-variants.{Absent}
 use Rattle.message.specs.declared.state.Message.the-variants.{Open}
@@ -105,8 +106,8 @@ an-open-message-in-full : cardAfter (receive ∷ []) .core .message
     ≡ Open (record {
       command = 0x2862;
       line = false;
-      block = 2;
-      home = 1;
+      block = theBlock 2;
+      home = theBlock 1;
       moved = false;
       busy = false;
       queued = true;
@@ -159,7 +160,7 @@ table-word-3FFF-names-block-255 = refl
 
 -- the table is the block that the host has set
 another-table-block-has-other-chains :
-    cellAfter (tableMove 12 ∷ put 12 3 0x4009 ∷ receive ∷ word1 ∷ []) 9 0
+    cellAfter (tableMove (theBlock 12) ∷ put 12 3 0x4009 ∷ receive ∷ word1 ∷ []) 9 0
     ≡ 0x1111
 unfolding runs
 another-table-block-has-other-chains = refl

@@ -4,7 +4,7 @@
 use mathlib.Core.Path.{_≡_, refl}
 use mathlib.Core.List.{[], _∷_}
 use lib.ListN.{replicate}
-use Rattle.card.specs.Memory.{cellAt}
+use Rattle.card.specs.Memory.{theBlock, theCell, cellAt}
 use Rattle.terminal.specs.declared.state.Reply.the-variants.{Silent, Status}
 use Rattle.terminal.specs.State.{Card, card, coreAtSetup}
 use Rattle.terminal.specs.Event.{tableMove, flagsWrite, replied, queueWord}
@@ -31,7 +31,7 @@ small = card (old .core) (old .queue) (0 ∷ [])
 
 -- station 31
 abbrev unfit : Card
-unfit = card (coreAtSetup 31 1 0) (chained .queue) (chained .ram)
+unfit = card (coreAtSetup 31 (theBlock 1) 0) (chained .queue) (chained .ram)
 
 -- ---- taken: 0, and one step
 
@@ -65,7 +65,7 @@ a-queue-read-is-taken = refl
 
 -- the open message remembers it
 a-table-block-is-taken : moveTableAction 12 old
-    ≡ after 0 (replied Silent) (cardAfter (receive ∷ word1 ∷ tableMove 12 ∷ []))
+    ≡ after 0 (replied Silent) (cardAfter (receive ∷ word1 ∷ tableMove (theBlock 12) ∷ []))
 unfolding runs
 a-table-block-is-taken = refl
 
@@ -114,7 +114,7 @@ the-other-actions-take-no-memory = refl
 
 -- station 31 over one word of memory
 refusal-1-comes-before-4 :
-    silenceAction 0 0x64 (card (coreAtSetup 31 1 0) (chained .queue) (0 ∷ [])) .refusal
+    silenceAction 0 0x64 (card (coreAtSetup 31 (theBlock 1) 0) (chained .queue) (0 ∷ [])) .refusal
     ≡ 1
 unfolding runs
 refusal-1-comes-before-4 = refl
@@ -212,7 +212,8 @@ table-block-255-is-taken = refl
 
 -- the link is stored
 a-refused-table-move-does-not-count-as-one :
-    cellAt (run (word2 ∷ quiet ∷ []) (moveTableAction 256 old .card) .ram) 1 3
+    cellAt (run (word2 ∷ quiet ∷ []) (moveTableAction 256 old .card) .ram) (theBlock 1)
+    (theCell 3)
     ≡ 0x4003
 unfolding runs
 a-refused-table-move-does-not-count-as-one = refl

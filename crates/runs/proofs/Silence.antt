@@ -4,6 +4,7 @@ use mathlib.Core.Path.{_≡_, refl}
 use mathlib.Core.List.{List, [], _∷_, _++_}
 use Prim.Native.Nat.{ℕ}
 use lib.ListN.{replicate}
+use Rattle.card.specs.Memory.{theBlock}
 use Rattle.card.specs.Sent.{sentPart}
 use Rattle.terminal.specs.declared.state.Reply.the-variants.{Silent, Status, Words}
 use Rattle.terminal.specs.Event.{Event, queueRead, hostWrite, flagsWrite, replied, queueWord}
@@ -91,7 +92,8 @@ unfolding runs
 a-thirty-third-word-is-4 = refl
 
 -- the transmit command too
-count-0-sends-32-words : answerTo (commandA 0x2C60 0x28 ∷ quiet ∷ []) ≡ replied (Words 0x2800 10 32)
+count-0-sends-32-words :
+    answerTo (commandA 0x2C60 0x28 ∷ quiet ∷ []) ≡ replied (Words 0x2800 (theBlock 10) 32)
 unfolding runs
 count-0-sends-32-words = refl
 
@@ -99,7 +101,7 @@ count-0-sends-32-words = refl
 
 -- status, block and count of the words sent
 a-transmit-message-is-answered-by-its-words : answerTo (transmit ∷ quiet ∷ [])
-    ≡ replied (Words 0x2800 10 2)
+    ≡ replied (Words 0x2800 (theBlock 10) 2)
 unfolding runs
 a-transmit-message-is-answered-by-its-words = refl
 
@@ -116,7 +118,8 @@ its-chain-goes-on = refl
 
 -- a host write after the command still counts; the part starts at the block's cell 0
 the-words-sent-are-those-at-the-silence :
-    sentPart (cardAfter (put 10 0 0xAAAA ∷ transmit ∷ put 10 1 0xBBBB ∷ quiet ∷ []) .ram) 10 2
+    sentPart (cardAfter (put 10 0 0xAAAA ∷ transmit ∷ put 10 1 0xBBBB ∷ quiet ∷ []) .ram)
+    (theBlock 10) 2
     ≡ 0xAAAA ∷ 0xBBBB ∷ []
 unfolding runs
 the-words-sent-are-those-at-the-silence = refl

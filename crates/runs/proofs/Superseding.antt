@@ -2,6 +2,7 @@
 -- message with code 7 and opens. Other words on the other line do nothing. Assumes nothing.
 use mathlib.Core.Path.{_≡_, refl}
 use mathlib.Core.List.{[], _∷_}
+use Rattle.card.specs.Memory.{theBlock}
 use Rattle.terminal.specs.declared.state.Reply.the-variants.{Silent, Status, Words, Last}
 use Rattle.terminal.specs.Event.{queueRead, flagsWrite, replied, queueWord}
 use Rattle.runs.proofs.Telling.{
@@ -51,7 +52,7 @@ the-superseded-block-joins-the-queue = refl
 
 -- transmit, subaddress 3: two words of block 10
 the-new-message-ends-as-usual : answerTo (receive ∷ word1 ∷ commandA 0x2C62 0x50 ∷ quiet ∷ [])
-    ≡ replied (Words 0x2800 10 2)
+    ≡ replied (Words 0x2800 (theBlock 10) 2)
 unfolding runs
 the-new-message-ends-as-usual = refl
 
@@ -117,7 +118,7 @@ an-own-command-on-line-A-supersedes-line-B = refl
 -- it is open on the line of its command
 the-new-message-ends-at-a-silence-on-line-B :
     answerTo (receive ∷ word1 ∷ commandB 0x2C62 0x50 ∷ silenceB 0x64 ∷ [])
-    ≡ replied (Words 0x2800 10 2)
+    ≡ replied (Words 0x2800 (theBlock 10) 2)
 unfolding runs
 the-new-message-ends-at-a-silence-on-line-B = refl
 

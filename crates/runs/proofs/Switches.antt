@@ -5,6 +5,7 @@ use mathlib.Core.Bool.{Bool, true, false}
 use mathlib.Core.List.{List, [], _∷_, _++_}
 use Prim.Native.Nat.{ℕ}
 use lib.ListN.{replicate}
+use Rattle.card.specs.Memory.{theBlock}
 use Rattle.terminal.specs.declared.state.Shut.{Shut}
 use Rattle.terminal.specs.declared.state.Reply.the-variants.{Silent, Status}
 use Rattle.terminal.specs.State.{withLast, coreAtSetup}
@@ -202,6 +203,6 @@ after-code-8-both-lines-reply-and-the-flag-is-back = refl
 
 -- station, table, flags and the status that it made stay
 code-8-clears-nothing-else : cardAfter (allSet ++ onA 0x2C08) .core
-    ≡ withLast 0x2C08 (coreAtSetup 5 1 32)
+    ≡ withLast 0x2C08 (coreAtSetup 5 (theBlock 1) 32)
 unfolding runs
 code-8-clears-nothing-else = refl

@@ -5,7 +5,7 @@ use mathlib.Core.Bool.{true, false}
 use mathlib.Core.List.{List, [], _∷_, _++_}
 use Prim.Native.Nat.{ℕ}
 use lib.ListN.{getD, replicate}
-use Rattle.card.specs.Memory.{cardWords, wordAddress, cellAt}
+use Rattle.card.specs.Memory.{cardWords, theBlock, theCell, wordAddress, cellAt}
 use Rattle.terminal.specs.declared.state.Shut.{Shut}
 use Rattle.message.specs.declared.state.Message.{Message}
 use Rattle.message.specs.declared.state.Message.the-variants.{Idle, Open}
@@ -59,7 +59,7 @@ silenceB = silence true
 
 -- the host writes one word into a cell of a block
 abbrev pub put : ℕ → ℕ → ℕ → Event
-put block cell value = hostWrite (wordAddress block cell) (value ∷ [])
+put block cell value = hostWrite (wordAddress (theBlock block) (theCell cell)) (value ∷ [])
 
 -- the events of document 01's run: a receive command for two words to subaddress 3, the two data
 -- words, a silence; and the same command with direction 1, and to all stations
@@ -93,7 +93,7 @@ code18 = commandA 0x2C12 0x78 ∷ silenceA 0x8C ∷ []
 -- station 5, table block 1, no flags, over a memory of zeros
 unfoldable pub atSetup : Card
 atSetup =
-    card (coreAtSetup 5 1 0) emptyQueue (replicate cardWords 0)
+    card (coreAtSetup 5 (theBlock 1) 0) emptyQueue (replicate cardWords 0)
 
 -- that card with five chains, each of which wants the queue and links its block to the next one:
 --     receive, subaddress 3     table cell 3     block 2, then 3
@@ -155,7 +155,7 @@ unfoldable pub cardAfter : List Event → Card
 cardAfter events = run events chained
 
 abbrev pub cellAfter : List Event → ℕ → ℕ → ℕ
-cellAfter events block cell = cellAt (cardAfter events .ram) block cell
+cellAfter events block cell = cellAt (cardAfter events .ram) (theBlock block) (theCell cell)
 
 -- the remembered status
 abbrev pub statusAfter : List Event → ℕ

@@ -4,6 +4,7 @@ use mathlib.Core.Path.{_≡_, refl}
 use mathlib.Core.Bool.{true, false}
 use mathlib.Core.List.{List, [], _∷_, _++_}
 use lib.ListN.{replicate}
+use Rattle.card.specs.Memory.{theBlock}
 use Rattle.message.specs.declared.state.Stage.the-variants.{SecondCommand}
 use Rattle.message.specs.declared.state.Second.the-variants.{Command}
 use Rattle.message.specs.declared.state.Message.the-variants.{Open}
@@ -53,8 +54,8 @@ the-second-command-is-kept : cardAfter turned .core .message
     ≡ Open (record {
       command = 0x2862;
       line = false;
-      block = 2;
-      home = 1;
+      block = theBlock 2;
+      home = theBlock 1;
       moved = false;
       busy = false;
       queued = true;

@@ -4,6 +4,7 @@ use mathlib.Core.Path.{_≡_, refl}
 use mathlib.Core.Bool.{false}
 use mathlib.Core.List.{List, [], _∷_, _++_}
 use lib.ListN.{replicate, set}
+use Rattle.card.specs.Memory.{theBlock}
 use Rattle.queue.specs.Queue.{queue, ringOf}
 use Rattle.terminal.specs.declared.state.Reply.the-variants.{Silent, Status}
 use Rattle.terminal.specs.State.{withLast, coreAtSetup}
@@ -74,7 +75,7 @@ no-other-cell-is-written = refl
 
 -- an opening sets last command and remembered status
 the-terminal-remembers-the-status-and-the-command : run tray atSetup .core
-    ≡ withLast 0x2862 (coreAtSetup 5 1 0)
+    ≡ withLast 0x2862 (coreAtSetup 5 (theBlock 1) 0)
 unfolding runs
 the-terminal-remembers-the-status-and-the-command = refl
 

@@ -5,6 +5,7 @@ use mathlib.Core.Bool.{false}
 use mathlib.Core.List.{List, [], _∷_}
 use Prim.Native.Nat.{ℕ}
 use lib.ListN.{replicate, set}
+use Rattle.card.specs.Memory.{theBlock}
 use Rattle.queue.specs.Queue.{emptyQueue, queue, ringOf}
 use Rattle.message.specs.declared.state.Stage.{Stage}
 use Rattle.message.specs.declared.state.Stage.the-variants.{
@@ -39,7 +40,8 @@ judged core = silenceAction 0 0x64 (card core emptyQueue (atSetup .ram)) .refusa
 abbrev judgedQueue : List ℕ → ℕ → ℕ → ℕ
 judgedQueue places start count =
     silenceAction 0 0x64
-    (card (coreAtSetup 5 1 0) (queue places (ringOf start count false)) (atSetup .ram)) .refusal
+    (card (coreAtSetup 5 (theBlock 1) 0) (queue places (ringOf start count false)) (atSetup .ram))
+    .refusal
 
 -- and from an open message of station 5: block, table block, command, words taken, second command
 -- and stage
@@ -50,8 +52,8 @@ judgedMessage block home command taken second stage =
     (Open (record {
       command = command;
       line = false;
-      block = block;
-      home = home;
+      block = theBlock block;
+      home = theBlock home;
       moved = false;
       busy = false;
       queued = false;
@@ -60,14 +62,14 @@ judgedMessage block home command taken second stage =
       second = second;
       stage = stage;
     }))
-    (coreAtSetup 5 1 0))
+    (coreAtSetup 5 (theBlock 1) 0))
 
 abbrev judgedOpen : ℕ → ℕ → Second → Stage → ℕ
 judgedOpen = judgedMessage 2 1
 
 -- station 31
 abbrev unfit : Card
-unfit = card (coreAtSetup 31 1 0) emptyQueue (atSetup .ram)
+unfit = card (coreAtSetup 31 (theBlock 1) 0) emptyQueue (atSetup .ram)
 
 -- ---- every action
 
@@ -104,23 +106,29 @@ flags-are-refused = refl
 -- ---- station, table block, flags
 
 -- station as refusal 2 has it
-stations-are-0-to-30 : judged (coreAtSetup 30 1 0) ∷ judged (coreAtSetup 31 1 0) ∷ [] ≡ 0 ∷ 4 ∷ []
+stations-are-0-to-30 :
+    judged (coreAtSetup 30 (theBlock 1) 0) ∷ judged (coreAtSetup 31 (theBlock 1) 0) ∷ []
+    ≡ 0 ∷ 4 ∷ []
 unfolding runs
 stations-are-0-to-30 = refl
 
 -- table as refusal 3 has it
-table-blocks-are-0-to-255 : judged (coreAtSetup 5 255 0) ∷ judged (coreAtSetup 5 256 0) ∷ []
+table-blocks-are-0-to-255 :
+    judged (coreAtSetup 5 (theBlock 255) 0) ∷ judged (coreAtSetup 5 (theBlock 256) 0) ∷ []
     ≡ 0 ∷ 4 ∷ []
 unfolding runs
 table-blocks-are-0-to-255 = refl
 
 -- flags above 63
-flags-are-0-to-63 : judged (coreAtSetup 5 1 63) ∷ judged (coreAtSetup 5 1 64) ∷ [] ≡ 0 ∷ 4 ∷ []
+flags-are-0-to-63 :
+    judged (coreAtSetup 5 (theBlock 1) 63) ∷ judged (coreAtSetup 5 (theBlock 1) 64) ∷ []
+    ≡ 0 ∷ 4 ∷ []
 unfolding runs
 flags-are-0-to-63 = refl
 
 -- nothing outside the list is unfit
-status-and-last-command-are-free : judged (withStatus 65535 (withLast 65535 (coreAtSetup 5 1 0)))
+status-and-last-command-are-free :
+    judged (withStatus 65535 (withLast 65535 (coreAtSetup 5 (theBlock 1) 0)))
     ≡ 0
 unfolding runs
 status-and-last-command-are-free = refl

@@ -3,6 +3,7 @@
 use mathlib.Core.Path.{_≡_, refl}
 use mathlib.Core.List.{[], _∷_}
 use lib.ListN.{replicate}
+use Rattle.card.specs.Memory.{theBlock}
 use Rattle.terminal.specs.declared.state.Reply.the-variants.{Silent}
 use Rattle.terminal.specs.State.{withStatus, withLast, coreAtSetup}
 use Rattle.terminal.specs.Event.{flagsWrite, replied}
@@ -115,7 +116,7 @@ its-block-is-spent = refl
 -- a mode code acts at a sound end alone; message error is all that is left
 a-word-after-code-4-keeps-it-from-acting :
     cardAfter (commandA 0x2C04 0x28 ∷ word1 ∷ quiet ∷ []) .core
-    ≡ withStatus 0x2C00 (withLast 0x2C04 (coreAtSetup 5 1 0))
+    ≡ withStatus 0x2C00 (withLast 0x2C04 (coreAtSetup 5 (theBlock 1) 0))
 unfolding runs
 a-word-after-code-4-keeps-it-from-acting = refl
 

@@ -4,6 +4,7 @@ use mathlib.Core.Path.{_≡_, refl}
 use mathlib.Core.Bool.{true, false}
 use mathlib.Core.List.{[], _∷_, _++_}
 use lib.ListN.{replicate}
+use Rattle.card.specs.Memory.{theBlock}
 use Rattle.queue.specs.Queue.{ringOf}
 use Rattle.message.specs.declared.state.Stage.the-variants.{AwaitingStatus}
 use Rattle.message.specs.declared.state.Second.the-variants.{Command}
@@ -40,7 +41,7 @@ the-state-of-the-run :
             core =
                 record {
                   station = 5;
-                  table = 1;
+                  table = theBlock 1;
                   flags = 0;
                   status = 0x2800;
                   last = 0x2862;
@@ -76,8 +77,8 @@ an-open-message :
     (Open (record {
       command = 0x2862;
       line = true;
-      block = 2;
-      home = 1;
+      block = theBlock 2;
+      home = theBlock 1;
       moved = false;
       busy = true;
       queued = false;

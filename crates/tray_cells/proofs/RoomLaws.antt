@@ -115,12 +115,12 @@ unfolding openingText
 of-opening message =
     both (both (named (bytes "open ") blank (of-word (message .command)))
     (named (bytes "line ") blank (of-line (message .line))))
-    (named (bytes "block ") blank (of-decimal (message .block)))
+    (named (bytes "block ") blank (of-decimal (message .block .0)))
 
 of-fixed : (message : OpenMessage) → AtMost 108 (fixedText message)
 unfolding fixedText
 of-fixed message =
-    both (both (both (named (bytes "table ") blank (of-decimal (message .home)))
+    both (both (both (named (bytes "table ") blank (of-decimal (message .home .0)))
     (named (bytes "moved ") blank (of-decimal (weightOf (message .moved) 1))))
     (named (bytes "busy ") blank (of-decimal (weightOf (message .busy) 1))))
     (named (bytes "queued ") blank (of-decimal (weightOf (message .queued) 1)))
@@ -177,7 +177,7 @@ of-words : (core : Core) → AtMost 65 (wordsText core)
 unfolding wordsText
 of-words core =
     both (both (named (bytes "station ") newline (of-decimal (core .station)))
-    (named (bytes "table ") newline (of-decimal (core .table))))
+    (named (bytes "table ") newline (of-decimal (core .table .0))))
     (named (bytes "flags ") newline (of-byte (core .flags % 256)))
 
 of-remembered : (core : Core) → AtMost 22 (rememberedText core)

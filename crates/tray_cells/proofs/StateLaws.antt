@@ -156,7 +156,7 @@ module _ {out out₁ out₂ : List ℕ} {at at₁ at₂ : ℕ} where
   pub opening-fits : {after : List ℕ} {next : ℕ} (message : OpenMessage)
       → Fits out at (part "open " (hexWord (message .command))) out₁ at₁
       → Fits out₁ at₁ (part "line " (lineName (message .line))) out₂ at₂
-      → Fits out₂ at₂ (part "block " (decimal (message .block))) after next
+      → Fits out₂ at₂ (part "block " (decimal (message .block .0))) after next
       → Fits out at (openingText message) after next
   unfolding openingText
   opening-fits message first second third = fits-then (fits-then first second) third
@@ -181,7 +181,7 @@ module _ {out out₁ out₂ : List ℕ} {at at₁ at₂ : ℕ} where
 
   pub words-fits : {after : List ℕ} {next : ℕ} (core : Core)
       → Fits out at (line "station " (decimal (core .station))) out₁ at₁
-      → Fits out₁ at₁ (line "table " (decimal (core .table))) out₂ at₂
+      → Fits out₁ at₁ (line "table " (decimal (core .table .0))) out₂ at₂
       → Fits out₂ at₂ (line "flags " (hexByte (core .flags % 256))) after next
       → Fits out at (wordsText core) after next
   unfolding wordsText
@@ -221,7 +221,7 @@ module _ {out out₁ out₂ : List ℕ} {at at₁ at₂ : ℕ} where
         fits-then (fits-then name (fits-then high low)) last
 
     pub fixed-fits : {after : List ℕ} {next : ℕ} (message : OpenMessage)
-        → Fits out at (part "table " (decimal (message .home))) out₁ at₁
+        → Fits out at (part "table " (decimal (message .home .0))) out₁ at₁
         → Fits out₁ at₁ (part "moved " (markText (message .moved))) out₂ at₂
         → Fits out₂ at₂ (part "busy " (markText (message .busy))) out₃ at₃
         → Fits out₃ at₃ (part "queued " (markText (message .queued))) after next

@@ -73,12 +73,12 @@ unfoldable pub openingText : OpenMessage → List ℕ
 openingText message =
     part "open " (hexWord (message .command))
     ++ part "line " (lineName (message .line))
-    ++ part "block " (decimal (message .block))
+    ++ part "block " (decimal (message .block .0))
 
 -- the table block, and what was fixed with it
 unfoldable pub fixedText : OpenMessage → List ℕ
 fixedText message =
-    part "table " (decimal (message .home))
+    part "table " (decimal (message .home .0))
     ++ part "moved " (markText (message .moved))
     ++ part "busy " (markText (message .busy))
     ++ part "queued " (markText (message .queued))
@@ -126,7 +126,7 @@ queueText places ring = line "overflow " (markText (ring .overflow)) ++ waitingT
 unfoldable pub wordsText : Core → List ℕ
 wordsText core =
     line "station " (decimal (core .station))
-    ++ line "table " (decimal (core .table))
+    ++ line "table " (decimal (core .table .0))
     ++ line "flags " (hexByte (core .flags % 256))
 
 -- remembered status and last command

@@ -122,7 +122,7 @@ fn put_opening(out: &mut [u8], at: usize, message: OpenMessage) -> usize
 {
     let first = put_word(out, at, b"open ", message.command, b' ');
     let second = put_line(out, first, message.line);
-    put_number(out, second, b"block ", message.block, b' ')
+    put_number(out, second, b"block ", message.block.0, b' ')
 }
 
 // The table block, and what was fixed with it.
@@ -130,7 +130,7 @@ fn put_fixed(out: &mut [u8], at: usize, message: OpenMessage) -> usize
     ensures { λ next. ⌜ Fits (now (out .entry)) at (fixedText message)
         (now (out .exit)) next ⌝ }
 {
-    let first = put_number(out, at, b"table ", message.home, b' ');
+    let first = put_number(out, at, b"table ", message.home.0, b' ');
     let second = put_mark(out, first, b"moved ", message.moved, b' ');
     let third = put_mark(out, second, b"busy ", message.busy, b' ');
     put_mark(out, third, b"queued ", message.queued, b' ')
@@ -224,7 +224,7 @@ fn put_words(out: &mut [u8], at: usize, core: Core) -> usize
         (now (out .exit)) next ⌝ }
 {
     let first = put_number(out, at, b"station ", core.station, b'\n');
-    let second = put_number(out, first, b"table ", core.table, b'\n');
+    let second = put_number(out, first, b"table ", core.table.0, b'\n');
     put_flags(out, second, core.flags)
 }
 

@@ -5,6 +5,7 @@ use crate::notation;
 use crate::traffic;
 use actions::Done;
 use actions::Terminal;
+use card::place::Block;
 use card::sent;
 use queue::Queue;
 use queue::Ring;
@@ -63,7 +64,7 @@ fn read(terminal: Terminal) -> Done {
 }
 
 // A part that is refused is empty; one that is shown has the words that were asked for.
-fn part(terminal: Terminal, ram: &[u16], block: u16, count: u16) -> Done {
+fn part(terminal: Terminal, ram: &[u16], block: Block, count: u16) -> Done {
     let number = sent::refusal(ram, block, count);
     let shown = sent::part(ram, block, count).len();
     if number == 0 {
@@ -115,7 +116,7 @@ pub(crate) fn perform(
         return write(terminal, ram, first, second);
     }
     if action == PART {
-        return part(terminal, ram, first, second);
+        return part(terminal, ram, Block(first), second);
     }
     perform_alone(terminal, action, first)
 }
@@ -147,7 +148,7 @@ fn given(unfit: bool) -> Terminal {
 
 fn same_core(first: Core, second: Core) -> bool {
     (first.station == second.station)
-        & (first.table == second.table)
+        & (first.table.0 == second.table.0)
         & (first.flags == second.flags)
         & (first.status == second.status)
         & (first.last == second.last)
@@ -160,16 +161,20 @@ fn same_ring(first: Ring, second: Ring) -> bool {
         & (first.overflow == second.overflow)
 }
 
+fn same_queue(first: Queue, second: Queue) -> bool {
+    let places = first.places;
+    let beside = second.places;
+    let ring = first.ring;
+    let turned = second.ring;
+    same_ring(ring, turned) & traffic::same_words(&places, &beside)
+}
+
 fn same_terminal(first: Terminal, second: Terminal) -> bool {
     let core = first.core;
     let other = second.core;
     let queue = first.queue;
     let next = second.queue;
-    let places = queue.places;
-    let beside = next.places;
-    let ring = queue.ring;
-    let turned = next.ring;
-    same_core(core, other) & same_ring(ring, turned) & traffic::same_words(&places, &beside)
+    same_core(core, other) & same_queue(queue, next)
 }
 
 // ---- the cases

@@ -8,7 +8,7 @@ use actions::Terminal;
 fn is_set_up(terminal: Terminal, station: u16, table: u16, flags: u16) -> bool {
     let core = terminal.core;
     let answered = terminal.read_queue();
-    let numbers = (core.station == station) & (core.table == table) & (core.flags == flags);
+    let numbers = (core.station == station) & (core.table.0 == table) & (core.flags == flags);
     let words = (core.status == station % 32 * 2048) & (core.last == 0);
     numbers & words & (answered.refusal == 0) & (answered.word == 0)
 }

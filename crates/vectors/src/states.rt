@@ -5,6 +5,7 @@
 use crate::notation;
 use crate::refusals;
 use actions::Terminal;
+use card::place::Block;
 use message::state::Message;
 use message::state::OpenMessage;
 use message::state::Second;
@@ -47,8 +48,8 @@ fn open_message(row: &[u8]) -> OpenMessage {
     OpenMessage {
         command: notation::word_in(row, 6),
         line: false,
-        block: notation::word_in(row, 7),
-        home: notation::word_in(row, 8),
+        block: Block(notation::word_in(row, 7)),
+        home: Block(notation::word_in(row, 8)),
         moved: false,
         busy: false,
         queued: false,
@@ -69,7 +70,7 @@ fn message_of(row: &[u8]) -> Message {
 fn core_of(row: &[u8]) -> Core {
     Core {
         station: notation::word_in(row, 0),
-        table: notation::word_in(row, 1),
+        table: Block(notation::word_in(row, 1)),
         flags: notation::word_in(row, 2),
         status: 0,
         last: 0,

@@ -1,6 +1,6 @@
 -- The claim that one broken message costs one block, by what is asked and what is said, so that one
 -- thing can be left out at a time; and what such claims are refuted with. Assumes nothing.
-use mathlib.Core.Path.{_≡_, refl}
+use mathlib.Core.Path.{_≡_, refl, ap}
 use mathlib.Core.Logic.{_≢_}
 use mathlib.Core.List.{List, [], _∷_}
 use Prim.Native.Nat.{ℕ, _/_}
@@ -9,6 +9,7 @@ use Rattle.rules.proofs.Clash.{clash}
 use Rattle.bus.specs.declared.kind.Kind.the-variants.{Receive}
 use Rattle.bus.specs.Kind.{kindOf}
 use Rattle.bus.specs.declared.word.Word.{Word}
+use Rattle.card.specs.declared.place.Block.{Block}
 use Rattle.terminal.specs.State.{Card}
 use Rattle.terminal.specs.Event.{Event, word, none, keeping, afresh}
 use Rattle.terminal.specs.Machine.{step, run}
@@ -21,8 +22,8 @@ use Rattle.runs.proofs.Telling.{runs, unsoundA, put, word1, word2, quie
 -- comes after, and by what is then the same
 
 abbrev pub Claim : (Word → Card → Type 0) → (List Event → Card → Type 0)
-    → (Card → Card → List Event → Type 0) → ((ℕ → Type 0) → List Event → Card → Type 0)
-    → ((ℕ → Type 0) → List Event → Card → Card → Type 0) → Type 0
+    → (Card → Card → List Event → Type 0) → ((Block → Type 0) → List Event → Card → Type 0)
+    → ((Block → Type 0) → List Event → Card → Card → Type 0) → Type 0
 Claim Command Stretch End Tail Same =
     (old : Card) (command : Word) (one two after : List Event) → Command command old
     → Stretch one (step (word command) old .card) → Stretch two (step (word command) old .card)
@@ -77,10 +78,12 @@ unfolding runs chains
 tray-command receiving sending = record { receives = refl; opens = afresh-is-not-none }
 
 -- every cell of another block is kept
-pub kept-elsewhere : (block address : ℕ) → address / 64 ≢ block
+pub kept-elsewhere : (block : Block) (address : ℕ) → address / 64 ≢ block .0
     → Kept (λ spent. spent ≡ block) address
 kept-elsewhere block address other =
     record {
-      data-cell = λ spent cell is low named. other (omega arith);
-      service-cell = λ spent cell is from to named. other (omega arith);
+      data-cell = λ spent cell is low named.
+          other (omega (arith, ap (λ (any : Block). any .0) is));
+      service-cell = λ spent cell is from to named.
+          other (omega (arith, ap (λ (any : Block). any .0) is));
     }

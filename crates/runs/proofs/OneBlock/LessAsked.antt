@@ -8,6 +8,8 @@ use Prim.Native.Nat.{ℕ}
 use native.Mathlib.Omega.{arith}
 use lib.ListN.{getD}
 use Rattle.rules.proofs.Clash.{clash}
+use Rattle.card.specs.declared.place.Block.{Block}
+use Rattle.card.specs.Memory.{theBlock}
 use Rattle.queue.specs.declared.Queue.{Queue}
 use Rattle.message.specs.declared.state.Message.{Message}
 use Rattle.message.specs.declared.state.Message.the-variants.{Idle}
@@ -88,7 +90,7 @@ a-command-that-is-no-receive-would-differ claim =
     let answers =
     claim (chains 0x4002 0) shuts (word1 ∷ []) (quiet ∷ []) after afresh-is-not-none
     (a-word refl nothing) (a-silence nothing) (closed refl refl)
-    (spared-from 0 after (run (word shuts ∷ word1 ∷ []) (chains 0x4002 0)) refl)
+    (spared-from (theBlock 0) after (run (word shuts ∷ word1 ∷ []) (chains 0x4002 0)) refl)
     .later .1 .0 .answer in
     replied-is-not-silent (silent-too answers refl)
 
@@ -111,9 +113,10 @@ a-host-action-would-differ claim =
     (an-event refl (an-event refl (an-event refl (an-event refl no-event))))
     (an-event refl (an-event refl (an-event refl no-event)))
     (closed refl refl)
-    (spared-from 2 (queueRead ∷ []) (run (word command ∷ put 64 0 7 ∷ sound) (chains 0x4002 0))
+    (spared-from (theBlock 2) (queueRead ∷ [])
+    (run (word command ∷ put 64 0 7 ∷ sound) (chains 0x4002 0))
     refl)
-    .later .0 .cards .cell 4096 (kept-elsewhere 2 4096 (λ is. omega arith)) in
+    .later .0 .cards .cell 4096 (kept-elsewhere (theBlock 2) 4096 (λ is. omega arith)) in
     omega arith
 
 -- words and silences, words that open a message among them
@@ -136,12 +139,12 @@ another-opening-would-differ claim =
     (any-word (any-word (any-silence (any-word (any-silence no-more)))))
     (any-word (any-word (any-silence no-more)))
     (closed refl refl)
-    (spared-from 2 (queueRead ∷ [])
+    (spared-from (theBlock 2) (queueRead ∷ [])
     (run
     (word command ∷ word1 ∷ word2 ∷ quiet ∷ commandA 0x2862 0x70 ∷ silenceA 0x80 ∷ [])
     (chains 0x4002 0))
     refl)
-    .later .0 .cards .cell 58 (kept-elsewhere 2 58 (λ is. omega arith)) in
+    .later .0 .cards .cell 58 (kept-elsewhere (theBlock 2) 58 (λ is. omega arith)) in
     omega arith
 
 -- ---- of their ends
@@ -156,7 +159,7 @@ an-open-message-would-differ claim =
     let queues =
     claim (chains 0x4002 0) command sound (word1 ∷ []) (queueRead ∷ []) (tray-command 0x4002 0)
     (a-word refl (a-word refl (a-silence nothing))) (a-word refl nothing) whatever
-    (spared-from 2 (queueRead ∷ []) (run (word command ∷ sound) (chains 0x4002 0)) refl)
+    (spared-from (theBlock 2) (queueRead ∷ []) (run (word command ∷ sound) (chains 0x4002 0)) refl)
     .later .0 .cards .queue .entries in
     let differs : _≡_ {A = ℕ} 1 0 = ap (λ (queue : Queue). queue .ring .start) queues in
     omega arith
@@ -177,22 +180,22 @@ a-joined-command-would-differ claim =
     claim (chains 0x4002 0) command sound (word1 ∷ []) after (tray-command 0x4002 0)
     (a-word refl (a-word refl (a-silence nothing))) (a-word refl nothing)
     (opened-next (wordOf 0x0E 0x2C02 0x70) keeping-is-not-none)
-    (spared-from 2 after (run (word command ∷ sound) (chains 0x4002 0)) refl)
+    (spared-from (theBlock 2) after (run (word command ∷ sound) (chains 0x4002 0)) refl)
     .later .1 .0 .answer in
     replied-is-not-silent (silent-too answers refl)
 
 -- ---- of the events after
 
 -- the block is no source of words sent, and may be the table
-unfoldable NoSource : (ℕ → Type 0) → List Event → Card → Type 0
+unfoldable NoSource : (Block → Type 0) → List Event → Card → Type 0
 NoSource Spent [] card = Unit {0}
 NoSource Spent (event ∷ after) card =
-    ((status block count : ℕ) → step event card .answer ≡ Replied (Words status block count)
-    → Spent block → ⊥)
+    ((status : ℕ) (block : Block) (count : ℕ)
+    → step event card .answer ≡ Replied (Words status block count) → Spent block → ⊥)
     × NoSource Spent after (step event card .card)
 
-silent-sends-none : (status block count : ℕ)
-    → Replied Silent ≡ Replied (Words status block count) → block ≡ 1 → ⊥
+silent-sends-none : (status : ℕ) (block : Block) (count : ℕ)
+    → Replied Silent ≡ Replied (Words status block count) → block ≡ theBlock 1 → ⊥
 silent-sends-none status block count is spent = clash (cc)
 
 -- a data word in cell 1 of the table is where the chain of subaddress 1 goes
@@ -204,17 +207,17 @@ a-block-that-is-the-table-would-differ claim =
     (tray-command 0x0001 0)
     (a-word refl (a-word refl (a-silence nothing))) (a-word refl (a-word refl nothing))
     (closed refl refl) (silent-sends-none, (silent-sends-none, tt))
-    .later .1 .0 .cards .cell 2234 (kept-elsewhere 1 2234 (λ is. omega arith)) in
+    .later .1 .0 .cards .cell 2234 (kept-elsewhere (theBlock 1) 2234 (λ is. omega arith)) in
     omega arith
 
 -- the block is not the table, and may be a source of words sent
-unfoldable NoTable : (ℕ → Type 0) → List Event → Card → Type 0
+unfoldable NoTable : (Block → Type 0) → List Event → Card → Type 0
 NoTable Spent [] card = Unit {0}
 NoTable Spent (event ∷ after) card =
     (Spent (card .core .table) → ⊥) × NoTable Spent after (step event card .card)
 
-one-is-not-two : _≡_ {A = ℕ} 1 2 → ⊥
-one-is-not-two is = omega arith
+one-is-not-two : theBlock 1 ≡ theBlock 2 → ⊥
+one-is-not-two is = omega (arith, ap (λ (any : Block). any .0) is)
 
 -- the words that were received are sent
 a-block-that-is-sent-would-differ : Claim Receives Calm Settled NoTable SameAfter → ⊥
@@ -225,6 +228,6 @@ a-block-that-is-sent-would-differ claim =
     (commandA 0x2C62 0x70 ∷ silenceA 0x80 ∷ []) (tray-command 0x4002 0x4002)
     (a-word refl (a-word refl (a-silence nothing))) (a-word refl (a-word refl nothing))
     (closed refl refl) (one-is-not-two, (one-is-not-two, tt))
-    .later .1 .0 .words 0x2800 2 2 refl in
+    .later .1 .0 .words 0x2800 (theBlock 2) 2 refl in
     let differs : _≡_ {A = ℕ} 0x2222 0 = ap (λ (sent : List ℕ). getD sent 1 0) words in
     omega arith

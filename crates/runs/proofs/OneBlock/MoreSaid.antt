@@ -1,6 +1,6 @@
 -- One broken message costs one block, with one exception less: each such claim is false, by two
 -- runs that the checker computes. Assumes nothing.
-use mathlib.Core.Path.{_≡_, refl}
+use mathlib.Core.Path.{_≡_, refl, ap}
 use mathlib.Core.Logic.{_≢_}
 use mathlib.Core.Bool.{Bool, true}
 use mathlib.Core.List.{List, [], _∷_}
@@ -10,7 +10,9 @@ use lib.ListN.{getD}
 use Rattle.bus.specs.declared.kind.Kind.the-variants.{ModeStatus}
 use Rattle.bus.specs.Kind.{kindOf}
 use Rattle.bus.specs.Status.{withoutError}
-use Rattle.card.specs.Memory.{wordAddress}
+use Rattle.card.specs.declared.place.Block.{Block}
+use Rattle.card.specs.declared.place.Cell.{Cell}
+use Rattle.card.specs.Memory.{theBlock, wordAddress}
 use Rattle.message.specs.declared.state.OpenMessage.{OpenMessage}
 use Rattle.message.specs.declared.state.Message.{Message}
 use Rattle.message.specs.declared.state.Message.the-variants.{Open}
@@ -53,7 +55,7 @@ asked = commandA 0x2C02 0x70 ∷ silenceA 0x80 ∷ []
 -- ---- answers
 
 -- every answer, with no exception for the message error bit
-unfoldable SameAnswers : (ℕ → Type 0) → List Event → Card → Card → Type 0
+unfoldable SameAnswers : (Block → Type 0) → List Event → Card → Card → Type 0
 SameAnswers Spent [] here there = Unit {0}
 SameAnswers Spent (event ∷ after) here there =
     (step event here .answer ≡ step event there .answer)
@@ -66,7 +68,7 @@ the-message-error-bit-differs claim =
     claim (chains 0x4002 0) command sound unsound asked (tray-command 0x4002 0)
     (a-word refl (a-word refl (a-silence nothing))) (a-word refl (a-word refl nothing))
     (closed refl refl)
-    (spared-from 2 asked (run (word command ∷ sound) (chains 0x4002 0)) refl)
+    (spared-from (theBlock 2) asked (run (word command ∷ sound) (chains 0x4002 0)) refl)
     .1 .0 in
     let differs : _≡_ {A = ℕ} 0x2800 0x2C00 = cc in
     omega arith
@@ -88,7 +90,7 @@ AnswersButInStatus before (event ∷ after) here there =
     (step event here .card) (step event there .card)
 
 -- .. and so for every answer
-abbrev SameButInStatus : (ℕ → Type 0) → List Event → Card → Card → Type 0
+abbrev SameButInStatus : (Block → Type 0) → List Event → Card → Card → Type 0
 SameButInStatus Spent after here there = AnswersButInStatus true after here there
 
 same-last : {before : Bool} {message : Message} {answer other : Answer} {status last : ℕ}
@@ -110,7 +112,7 @@ the-message-error-bit-differs-in-code-18 claim =
     (claim (chains 0x4002 0) command sound (word1 ∷ []) asked-last (tray-command 0x4002 0)
     (a-word refl (a-word refl (a-silence nothing))) (a-word refl nothing)
     (superseded (wordOf 0x06 0x2C12 0x70) keeping-is-not-none refl)
-    (spared-from 2 asked-last (run (word command ∷ sound) (chains 0x4002 0)) refl)
+    (spared-from (theBlock 2) asked-last (run (word command ∷ sound) (chains 0x4002 0)) refl)
     .1 .0)
     refl in
     let differs : _≡_ {A = ℕ} 0x2C00 0x2800 = cc in
@@ -119,15 +121,16 @@ the-message-error-bit-differs-in-code-18 claim =
 -- ---- cells
 
 -- after the events, every cell but the block's service cells
-abbrev SameButService : (ℕ → Type 0) → List Event → Card → Card → Type 0
+abbrev SameButService : (Block → Type 0) → List Event → Card → Card → Type 0
 SameButService Spent after here there =
     (address : ℕ)
-    → ((block cell : ℕ) → Spent block → 58 ≤ cell → cell ≤ 61 → address ≢ wordAddress block cell)
+    → ((block : Block) (cell : Cell) → Spent block → 58 ≤ cell .0 → cell .0 ≤ 61
+    → address ≢ wordAddress block cell)
     → getD (run after here .ram) address 0 ≡ getD (run after there .ram) address 0
 
-data-of-two : (block cell : ℕ) → block ≡ 2 → 58 ≤ cell → cell ≤ 61
+data-of-two : (block : Block) (cell : Cell) → block ≡ theBlock 2 → 58 ≤ cell .0 → cell .0 ≤ 61
     → 129 ≢ wordAddress block cell
-data-of-two block cell is from to named = omega arith
+data-of-two block cell is from to named = omega (arith, ap (λ (any : Block). any .0) is)
 
 data-cells-differ : Claim Receives Calm Settled Spared SameButService → ⊥
 unfolding runs chains ThatBlock sparedFrom
@@ -136,19 +139,21 @@ data-cells-differ claim =
     claim (chains 0x4002 0) command sound unsound asked (tray-command 0x4002 0)
     (a-word refl (a-word refl (a-silence nothing))) (a-word refl (a-word refl nothing))
     (closed refl refl)
-    (spared-from 2 asked (run (word command ∷ sound) (chains 0x4002 0)) refl)
+    (spared-from (theBlock 2) asked (run (word command ∷ sound) (chains 0x4002 0)) refl)
     129 data-of-two in
     omega arith
 
 -- after the events, every cell but the block's data cells
-abbrev SameButData : (ℕ → Type 0) → List Event → Card → Card → Type 0
+abbrev SameButData : (Block → Type 0) → List Event → Card → Card → Type 0
 SameButData Spent after here there =
     (address : ℕ)
-    → ((block cell : ℕ) → Spent block → cell < 32 → address ≢ wordAddress block cell)
+    → ((block : Block) (cell : Cell) → Spent block → cell .0 < 32
+    → address ≢ wordAddress block cell)
     → getD (run after here .ram) address 0 ≡ getD (run after there .ram) address 0
 
-service-of-two : (block cell : ℕ) → block ≡ 2 → cell < 32 → 186 ≢ wordAddress block cell
-service-of-two block cell is low named = omega arith
+service-of-two : (block : Block) (cell : Cell) → block ≡ theBlock 2 → cell .0 < 32
+    → 186 ≢ wordAddress block cell
+service-of-two block cell is low named = omega (arith, ap (λ (any : Block). any .0) is)
 
 service-cells-differ : Claim Receives Calm Settled Spared SameButData → ⊥
 unfolding runs chains ThatBlock sparedFrom
@@ -157,6 +162,6 @@ service-cells-differ claim =
     claim (chains 0x4002 0) command sound unsound asked (tray-command 0x4002 0)
     (a-word refl (a-word refl (a-silence nothing))) (a-word refl (a-word refl nothing))
     (closed refl refl)
-    (spared-from 2 asked (run (word command ∷ sound) (chains 0x4002 0)) refl)
+    (spared-from (theBlock 2) asked (run (word command ∷ sound) (chains 0x4002 0)) refl)
     186 service-of-two in
     omega arith

@@ -5,7 +5,7 @@ use mathlib.Core.Bool.{true, false}
 use mathlib.Core.List.{List, [], _∷_, _++_}
 use Prim.Native.Nat.{ℕ}
 use lib.ListN.{getD, replicate}
-use Rattle.card.specs.Memory.{cardWords}
+use Rattle.card.specs.Memory.{cardWords, theBlock}
 use Rattle.terminal.specs.Event.{Event, hostWrite, word}
 use Rattle.terminal_laws.specs.OneBlock.{Alike, ThatBlock}
 use Rattle.recording.specs.Field.{lengthFits, fieldAt}
@@ -166,7 +166,7 @@ the-unsound-recording-prints = refl
 -- ---- what they leave
 
 -- the same queue and memory, but for data and service cells of block 2 ..
-the-same-is-left : Alike (λ block. block ≡ 2)
+the-same-is-left : Alike (λ block. block ≡ theBlock 2)
     (wholeFrom trayAtStart sound-recording .tray .card)
     (wholeFrom trayAtStart unsound-recording .tray .card)
 unfolding runs cardAfter ThatBlock trayAtStart

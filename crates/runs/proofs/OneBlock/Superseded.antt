@@ -4,6 +4,7 @@
 use mathlib.Core.Path.{_≡_, refl}
 use mathlib.Core.List.{List, [], _∷_}
 use lib.ListN.{replicate}
+use Rattle.card.specs.Memory.{theBlock}
 use Rattle.card.specs.Sent.{sentPart}
 use Rattle.terminal.specs.declared.state.Reply.the-variants.{Silent, Words, Last}
 use Rattle.terminal.specs.State.{Card}
@@ -79,16 +80,16 @@ all-holds-by-transmit =
       calm-one = a-word refl (a-word refl (a-silence nothing));
       calm-two = a-word refl nothing;
       settled = superseded (wordOf 0x06 0x2C62 0x70) afresh-is-not-none refl;
-      spared = spared-from 2 by-transmit (run (word command ∷ sound) met) refl;
+      spared = spared-from (theBlock 2) by-transmit (run (word command ∷ sound) met) refl;
     }
 
-only-block-2-differs-by-transmit : SameAfter (λ block. block ≡ 2) by-transmit
+only-block-2-differs-by-transmit : SameAfter (λ block. block ≡ theBlock 2) by-transmit
     (run (word command ∷ sound) met) (run (word command ∷ cut) met)
 unfolding runs met ThatBlock
 only-block-2-differs-by-transmit = one-block met command sound cut by-transmit all-holds-by-transmit
 
 the-sound-run-answers-by-transmit : answers by-transmit (run (word command ∷ sound) met)
-    ≡ replied Silent ∷ replied (Words 0x2800 10 2)
+    ≡ replied Silent ∷ replied (Words 0x2800 (theBlock 10) 2)
     ∷ replied Silent ∷ replied (Last 0x2800 0x2C62)
     ∷ queueWord 0x8002 ∷ queueWord 0x800A ∷ []
 unfolding runs met
@@ -96,7 +97,7 @@ the-sound-run-answers-by-transmit = refl
 
 -- the same: the transmit command makes the status anew, with message error 0, also for code 18
 the-cut-run-answers-by-transmit : answers by-transmit (run (word command ∷ cut) met)
-    ≡ replied Silent ∷ replied (Words 0x2800 10 2)
+    ≡ replied Silent ∷ replied (Words 0x2800 (theBlock 10) 2)
     ∷ replied Silent ∷ replied (Last 0x2800 0x2C62)
     ∷ queueWord 0x8002 ∷ queueWord 0x800A ∷ []
 unfolding runs met
@@ -128,10 +129,10 @@ all-holds-by-last =
       calm-one = a-word refl (a-word refl (a-silence nothing));
       calm-two = a-word refl nothing;
       settled = superseded (wordOf 0x06 0x2C12 0x70) keeping-is-not-none refl;
-      spared = spared-from 2 by-last (run (word command ∷ sound) met) refl;
+      spared = spared-from (theBlock 2) by-last (run (word command ∷ sound) met) refl;
     }
 
-only-block-2-differs-by-last : SameAfter (λ block. block ≡ 2) by-last
+only-block-2-differs-by-last : SameAfter (λ block. block ≡ theBlock 2) by-last
     (run (word command ∷ sound) met) (run (word command ∷ cut) met)
 unfolding runs met ThatBlock
 only-block-2-differs-by-last = one-block met command sound cut by-last all-holds-by-last
@@ -140,7 +141,7 @@ the-sound-run-answers-by-last : answers by-last (run (word command ∷ sound) me
     ≡ replied Silent ∷ replied (Last 0x2800 0x2862)
     ∷ replied Silent ∷ replied Silent ∷ replied Silent ∷ replied Silent ∷ replied Silent
     ∷ replied Silent ∷ replied (Last 0x2800 0x2862)
-    ∷ replied Silent ∷ replied (Words 0x2800 10 2)
+    ∷ replied Silent ∷ replied (Words 0x2800 (theBlock 10) 2)
     ∷ replied Silent ∷ replied (Last 0x2800 0x2C62)
     ∷ queueWord 0x8002 ∷ queueWord 0x800A ∷ []
 unfolding runs met
@@ -151,7 +152,7 @@ the-cut-run-answers-by-last : answers by-last (run (word command ∷ cut) met)
     ≡ replied Silent ∷ replied (Last 0x2C00 0x2862)
     ∷ replied Silent ∷ replied Silent ∷ replied Silent ∷ replied Silent ∷ replied Silent
     ∷ replied Silent ∷ replied (Last 0x2C00 0x2862)
-    ∷ replied Silent ∷ replied (Words 0x2800 10 2)
+    ∷ replied Silent ∷ replied (Words 0x2800 (theBlock 10) 2)
     ∷ replied Silent ∷ replied (Last 0x2800 0x2C62)
     ∷ queueWord 0x8002 ∷ queueWord 0x800A ∷ []
 unfolding runs met
@@ -159,8 +160,8 @@ the-cut-run-answers-by-last = refl
 
 -- the words of block 10, which both runs send
 both-runs-send-the-same-words :
-    sentPart (run by-last (run (word command ∷ sound) met) .ram) 10 2
-    ∷ sentPart (run by-last (run (word command ∷ cut) met) .ram) 10 2
+    sentPart (run by-last (run (word command ∷ sound) met) .ram) (theBlock 10) 2
+    ∷ sentPart (run by-last (run (word command ∷ cut) met) .ram) (theBlock 10) 2
     ∷ []
     ≡ replicate 2 (0xAAAA ∷ 0xBBBB ∷ [])
 unfolding runs met

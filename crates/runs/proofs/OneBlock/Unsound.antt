@@ -4,6 +4,7 @@
 use mathlib.Core.Path.{_≡_, refl}
 use mathlib.Core.List.{List, [], _∷_}
 use Rattle.bus.specs.declared.word.Word.{Word}
+use Rattle.card.specs.Memory.{theBlock}
 use Rattle.terminal.specs.declared.state.Reply.the-variants.{Silent, Status}
 use Rattle.terminal.specs.State.{Card}
 use Rattle.terminal.specs.Event.{
@@ -75,10 +76,10 @@ all-holds =
       calm-one = a-word refl (a-word refl (a-silence nothing));
       calm-two = a-word refl (a-word refl (a-silence nothing));
       settled = closed refl refl;
-      spared = spared-from 2 after (run (word command ∷ sound) met) refl;
+      spared = spared-from (theBlock 2) after (run (word command ∷ sound) met) refl;
     }
 
-only-block-2-differs : SameAfter (λ block. block ≡ 2) after
+only-block-2-differs : SameAfter (λ block. block ≡ theBlock 2) after
     (run (word command ∷ sound) met) (run (word command ∷ unsound) met)
 unfolding runs met ThatBlock
 only-block-2-differs = one-block met command sound unsound after all-holds
