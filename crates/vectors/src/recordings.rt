@@ -4,9 +4,11 @@ use crate::notation;
 use check;
 use io;
 use message::state::Message;
+use message::state::OpenMessage;
+use message::state::Second;
 use message::state::Stage;
-use terminal::state::Held;
-use terminal::state::Shut;
+use queue::Ring;
+use terminal::state::Core;
 use tray;
 use tray::Run;
 
@@ -38,35 +40,65 @@ fn message_mark(message: Message) -> u8 {
     }
 }
 
-fn shut_mark(shut: Shut) -> u8 {
-    weigh(shut.a, 1) | weigh(shut.b, 2)
-}
-
-fn marks_of(held: Held) -> u8 {
-    let core = held.core;
-    let ring = held.ring;
+fn marks_of(core: Core, ring: Ring) -> u8 {
     let shut = core.shut;
     let message = core.message;
-    let open = message_mark(message);
-    shut_mark(shut) | weigh(core.inhibit, 4) | weigh(ring.overflow, 8) | open
+    let lines = weigh(shut.a, 1) | weigh(shut.b, 2);
+    lines | weigh(core.inhibit, 4) | weigh(ring.overflow, 8) | message_mark(message)
 }
 
-fn put_state(out: &mut [u8], held: Held) -> usize {
-    let core = held.core;
-    let ring = held.ring;
-    let first = notation::put_word(out, 0, core.status);
-    let second = notation::put_word(out, first, core.last);
-    let third = notation::put_byte(out, second, marks_of(held));
-    notation::put_byte(out, third, (ring.count % 256) as u8)
+fn second_of(second: Second) -> u16 {
+    match second {
+        Second::Absent => 0,
+        Second::Command(command) => command,
+    }
 }
 
-// Where no setup was taken there is no state, and its bytes stay zero.
-fn put_begun(out: &mut [u8], run: Run) -> usize {
+fn open_marks(open: OpenMessage) -> u8 {
+    weigh(open.line, 1) | weigh(open.moved, 2) | weigh(open.busy, 4) | weigh(open.queued, 8)
+}
+
+fn put_opening(out: &mut [u8], at: usize, open: OpenMessage) -> usize {
+    let command = notation::put_word(out, at, open.command);
+    let block = notation::put_word(out, command, open.block);
+    let table = notation::put_word(out, block, open.home);
+    notation::put_byte(out, table, open_marks(open))
+}
+
+fn put_open(out: &mut [u8], at: usize, open: OpenMessage) -> usize {
+    let second = open.second;
+    let opening = put_opening(out, at, open);
+    let taken = notation::put_byte(out, opening, (open.taken % 256) as u8);
+    let other = notation::put_word(out, taken, second_of(second));
+    let high = notation::put_word(out, other, (open.opened / 65536) as u16);
+    notation::put_word(out, high, (open.opened % 65536) as u16)
+}
+
+fn put_message(out: &mut [u8], at: usize, message: Message) -> usize {
+    match message {
+        Message::Idle => at,
+        Message::Open(held) => put_open(out, at, held),
+    }
+}
+
+pub(crate) fn put_state(out: &mut [u8], at: usize, core: Core, ring: Ring) -> usize {
+    let message = core.message;
+    let status = notation::put_word(out, at, core.status);
+    let last = notation::put_word(out, status, core.last);
+    let marks = notation::put_byte(out, last, marks_of(core, ring));
+    let waiting = notation::put_byte(out, marks, (ring.count % 256) as u8);
+    put_message(out, waiting, message)
+}
+
+// Where no setup was taken there is no state, and zeros stand for it.
+fn put_run(out: &mut [u8], at: usize, run: Run) -> usize {
     if run.begun {
         let held = run.held;
-        return put_state(out, held);
+        let core = held.core;
+        let ring = held.ring;
+        return put_state(out, at, core, ring);
     }
-    6
+    notation::read_hex(b"0000 0000 0000", out, at)
 }
 
 fn put_cell(out: &mut [u8], at: usize, address: u16, word: u16) -> usize {
@@ -88,63 +120,43 @@ fn put_cells(out: &mut [u8], at: usize, ram: &[u16; 16384]) -> usize {
 
 // ---- a case
 
-// How many bytes of lines a run printed, and how many bytes its state and cells have.
-struct Sizes {
-    lines: usize,
-    state: usize,
-}
-
-// Runs a recording on a new card.
-fn run_recording(recording: &[u8], lines: &mut [u8], state: &mut [u8]) -> Sizes {
+// Runs a recording on a new card. Puts its lines and what it leaves, and answers how many bytes
+// they are.
+fn run_recording(recording: &[u8], out: &mut [u8]) -> usize {
     let mut places: [u16; 256] = [0; 256];
     let mut ram: [u16; 16384] = [0; 16384];
-    let start = Run::at_start();
-    let ran = tray::run_window(start, &mut places, &mut ram, recording, lines, true);
+    let ran = tray::run_window(Run::at_start(), &mut places, &mut ram, recording, out, true);
     let run = ran.run;
-    let first = put_begun(state, run);
-    let second = put_cells(state, first, &ram);
-    Sizes {
-        lines: ran.put,
-        state: second,
-    }
+    let next = put_run(out, ran.put, run);
+    put_cells(out, next, &ram)
 }
 
-// Whether the lines that were printed are those of the text.
-fn lines_hold(text: &[u8], lines: &[u8]) -> bool {
-    let mut bytes = io::buffer();
-    let wanted: &mut [u8] = &mut bytes;
-    let count = notation::read_lines(text, wanted);
-    check::same(notation::part(wanted, 0, count), lines)
+// Puts the lines and the state of a case's text.
+fn read_wanted(text: &[u8], out: &mut [u8]) -> usize {
+    let lines = notation::after(text, 0, b'>');
+    let state = notation::place_of(text, lines, b'=');
+    let count = notation::read_lines(notation::part(text, lines, state), out);
+    notation::read_hex(notation::part(text, state, text.len()), out, count)
 }
 
-// Whether the state and the cells are those of the text.
-fn state_holds(text: &[u8], state: &[u8]) -> bool {
-    let mut bytes = io::buffer();
-    let wanted: &mut [u8] = &mut bytes;
-    let count = notation::read_hex(text, wanted);
-    check::same(notation::part(wanted, 0, count), state)
+fn is_wanted(recording: &[u8], text: &[u8]) -> bool {
+    let mut left = io::large_buffer();
+    let size = run_recording(recording, &mut left);
+    let mut wanted = io::large_buffer();
+    let count = read_wanted(text, &mut wanted);
+    check::same(
+        notation::part(&left, 0, size),
+        notation::part(&wanted, 0, count),
+    )
 }
 
-// Whether a recording leaves the lines of a text, and the state of another.
-fn recording_holds(recording: &[u8], printed: &[u8], left: &[u8]) -> bool {
-    let mut first = io::buffer();
-    let lines: &mut [u8] = &mut first;
-    let mut second = io::buffer();
-    let state: &mut [u8] = &mut second;
-    let sizes = run_recording(recording, lines, state);
-    let right = lines_hold(printed, notation::part(lines, 0, sizes.lines));
-    right & state_holds(left, notation::part(state, 0, sizes.state))
-}
-
-// Whether a case comes out as it should.
-pub(crate) fn holds(text: &[u8]) -> bool {
+// Whether a case comes out as it should, behind what its group begins with.
+pub(crate) fn holds(before: &[u8], text: &[u8]) -> bool {
     let start = notation::after(text, 0, b'\n');
-    let lines = notation::after(text, start, b'>');
-    let state = notation::after(text, lines, b'=');
-    let mut bytes = io::buffer();
+    let end = notation::place_of(text, start, b'>');
+    let mut bytes = io::large_buffer();
     let recording: &mut [u8] = &mut bytes;
-    let count = notation::read_hex(notation::part(text, start, lines), recording);
-    let printed = notation::part(text, lines, state);
-    let left = notation::part(text, state, text.len());
-    recording_holds(notation::part(recording, 0, count), printed, left)
+    let size = notation::read_hex(before, recording, 0);
+    let count = notation::read_hex(notation::part(text, start, end), recording, size);
+    is_wanted(notation::part(recording, 0, count), text)
 }
