@@ -4,7 +4,7 @@
 --     Machine         one name to unfold the whole machine
 --     Telling         what runs are told with
 --     Marked          the ten marked cases of document 01, one table with one proof
---     Opened          how an event says that it opened a message
+--     Opened          what an opening fixes, and how an event says that it opened
 --     Chains          the chain rule and what may be written, at work, and what is false with less
 --     Sent            the words of a reply are those of the silence
 --     ByActions       the library's actions make document 01's run; what is refused with less

@@ -29,10 +29,6 @@ fn number_if(right: bool, number: u8) -> u8 {
     WRONG
 }
 
-fn low_byte(number: u16) -> u8 {
-    (number % 256) as u8
-}
-
 fn done(answered: Answered) -> Done {
     let left = answered.terminal;
     Done {
@@ -69,16 +65,12 @@ fn part(terminal: Terminal, ram: &[u16], block: u16, count: u16) -> Done {
     }
 }
 
-// What setup makes is as 01 has it; what it refuses is no terminal: every action refuses it with 4.
+// What setup refuses is no terminal: every action refuses it with 4.
 fn setup(given: Terminal) -> Done {
     let core = given.core;
     let made = Terminal::setup(core.station, core.table, core.flags);
     let new = made.terminal;
-    let start = new.core;
-    let first = new.read_queue();
-    let taken = (start.status == core.station % 32 * 2048) & (start.last == 0) & (first.word == 0);
-    let right = ((made.refusal == 0) & (first.refusal == 0) & taken)
-        | ((made.refusal != 0) & (first.refusal == 4));
+    let right = (made.refusal == 0) == new.is_fit();
     Done {
         refusal: number_if(right, made.refusal),
         terminal: given,
@@ -90,8 +82,8 @@ fn perform(given: Terminal, ram: &mut [u16], row: &[u8]) -> Done {
     let second = notation::word_in(row, 2);
     match notation::word_in(row, 0) {
         0 => setup(given),
-        1 => done(given.word(ram, low_byte(first), 0x2C61, 9)),
-        2 => done(given.silence(ram, low_byte(first), 9)),
+        1 => done(given.word(ram, (first % 256) as u8, 0x2C61, 9)),
+        2 => done(given.silence(ram, (first % 256) as u8, 9)),
         3 => write(given, ram, first, second),
         4 => read(given),
         5 => given.move_table(first),

@@ -11,15 +11,14 @@
 //
 //     * what it shows
 //     the recording, in 01's notation: hex, blanks and semicolons for the eye only
-//     >the lines that it must print, a semicolon for the newline of each
+//     >
+//     the lines that it must print
 //     = remembered status, last command, marks, blocks that wait; the open message, where there is
 //     one; then every nonzero cell, rising, as address and word
 //
-// The marks are a byte: bit 0 line A shut, 1 line B shut, 2 inhibit, 3 overflow; the high digit is
-// 0 where nothing is open, else the stage: 1 data, 2 second command, 3 awaiting status, 4 skipping.
-// Where no setup was taken, status, last command, marks and count are zero. An open message:
-// command, block, table block; a byte of marks: bit 0 line B, 1 table moved, 2 busy, 3 queue wanted;
-// a byte of words taken; the second command, 0 for none; the time of its opening.
+// The marks are a byte: bit 0 line A shut, 1 line B shut, 2 inhibit, 3 overflow. Of an open message
+// there are command, block and stage: 1 data, 2 second command, 3 awaiting status, 4 skipping. Where
+// no setup was taken the status is F800, that of no station.
 //
 // A case that is a call is a row of words in hex, to the line's end.
 
@@ -141,26 +140,4 @@ pub(crate) fn byte_in(row: &[u8], column: usize) -> u8 {
 pub(crate) fn word_in(row: &[u8], column: usize) -> u16 {
     let at = column % 128 * 2;
     (byte_in(row, at) as u16) * 256 + (byte_in(row, at + 1) as u16)
-}
-
-// ---- printed lines
-
-// Puts a byte of a line. A semicolon stands for the newline, and a newline is for the eye.
-fn put_printed(out: &mut [u8], at: usize, byte: u8) -> usize {
-    match byte {
-        b'\n' => at,
-        b';' => put_byte(out, at, b'\n'),
-        _ => put_byte(out, at, byte),
-    }
-}
-
-// Puts the lines that a text stands for. Answers how many bytes they have.
-pub(crate) fn read_lines(text: &[u8], out: &mut [u8]) -> usize {
-    let mut count: usize = 0;
-    let mut at: usize = 0;
-    while at < text.len() {
-        count = put_printed(out, count, text[at]);
-        at += 1;
-    }
-    count
 }
