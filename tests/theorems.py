@@ -1,8 +1,8 @@
 #!/usr/bin/env python3
-"""The names of docs/THEOREMS.md against the crates: every definition, theorem and function stands
-where the page says, every path is there, and every public function and every must-fail edit is on
-the page, an edit by its name alone. A public function has a contract and requires nothing, and an
-edit changes no proof. Leaves 1 on a difference."""
+"""The names of docs/THEOREMS.md against the crates: every definition, theorem, function and row of
+the program `vectors` stands where the page says, every path is there, and every public function and
+every must-fail edit is on the page, an edit by its name alone. A public function has a contract and
+requires nothing, and an edit changes no proof. Leaves 1 on a difference."""
 
 import pathlib
 import re
@@ -15,6 +15,8 @@ PAGE = ROOT / "docs" / "THEOREMS.md"
 # what stands between backticks: `card/Memory.wordAddress`, `card::place::word_address`, a path
 STATED = re.compile(r"^([a-z_]+)/((?:[A-Za-z0-9]+/)*[A-Za-z0-9]+)\.([^\s.]+)$")
 CODED = re.compile(r"^([a-z_]+)::((?:\w+::)*)(\w+)$")
+# .. a row of `vectors` by its group and title, `vectors: words/a third word is 4`
+ROW = re.compile(r"^vectors: (.+)$")
 # .. or words of the language, the parts that every crate has, and the command that proves them
 PLAIN = {"u8", "u16", "pub", "requires", "main", "specs/", "proofs/", "must-fail/", "rt ci"}
 TYPE = re.compile(r"^pub (?:struct|enum) (\w+)", re.MULTILINE)
@@ -54,14 +56,28 @@ def coded(crate, places, name):
             and (wanted or found[0] in ("lib", "main"))]
 
 
+def rows():
+    """The rows of `vectors`, by group and title. A recording is named by what stands behind its
+    star, a call by the remark above it."""
+    names = set()
+    for group in re.split(r"^@", (CRATES / "vectors" / "stdin").read_text(), flags=re.MULTILINE)[1:]:
+        kind, name = re.match(r"(.) (.*)", group).groups()
+        titles = re.findall(r"^\* (.*)" if kind in "rR" else r"^# (.*)", group, re.MULTILINE)
+        names |= {f"{name}/{title}" for title in titles}
+    return names
+
+
 def main():
     tokens = set(re.findall(r"`([^`\n]+)`", PAGE.read_text()))
     crates = {path.name for path in CRATES.iterdir()}
     edits = {path.stem: path for path in CRATES.glob("*/must-fail/*.edit")}
+    cases = rows()
     wrong, named = [], set()
     for token in sorted(tokens):
         if token in crates | PLAIN | set(edits) or (ROOT / token).exists():
             right = True
+        elif match := ROW.match(token):
+            right = match[1] in cases
         elif match := STATED.match(token):
             right = match[1] in crates and stated(*match.groups())
         elif match := CODED.match(token):

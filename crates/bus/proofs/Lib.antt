@@ -4,7 +4,7 @@
 --     KindLaws      which kind a command is, by the answers to its tests
 --     StatusLaws    the address of a status word, and its message error bit
 --     Determined    each public contract allows one outcome alone
---     Examples      the definitions at work, by computation
+--     Examples      the definitions pinned, by computation
 pub mod CommandLaws
 pub mod ModeLaws
 pub mod KindLaws

@@ -7,7 +7,7 @@
 --     HostLaws      the host's write, word by word
 --     SentLaws      the part of words to send
 --     Determined    each public contract allows one outcome alone
---     Examples      the definitions at work, by computation
+--     Examples      the definitions pinned, by computation
 pub mod Frame
 pub mod MemoryLaws
 pub mod CellLaws

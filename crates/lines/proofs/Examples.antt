@@ -1,10 +1,11 @@
--- The lines at work, by computation: those of document 01's run and a few more. Assumes nothing.
+-- What no run shows, by computation: the largest number, and buffers without room. The other worked
+-- cases are rows of `vectors`. Assumes nothing.
 use mathlib.Core.Path.{_≡_, refl}
 use mathlib.Core.List.{List, [], _∷_, _++_}
 use Prim.Native.Nat.{ℕ}
 use lib.ListN.{replicate}
 use Rattle.lines.specs.Digits.{hexDigit, hexByte, hexWord, decimalBy, decimal}
-use Rattle.lines.specs.Lines.{eachWord, statusLine, queueLine, endLine, refusalLine}
+use Rattle.lines.specs.Lines.{queueLine}
 use Rattle.lines.specs.Written.{
   put,
   stored,
@@ -13,62 +14,6 @@ use Rattle.lines.specs.Written.{
   lineWritten,
   statusWritten,
 }
-
--- ---- the lines of document 01's run
-
--- `S 2800`
-the-status-of-the-run : statusLine 0x2800 [] ≡ 83 ∷ 32 ∷ 50 ∷ 56 ∷ 48 ∷ 48 ∷ 10 ∷ []
-unfolding statusLine eachWord hexWord hexDigit
-the-status-of-the-run = refl
-
--- `S 2800 1111 2222`
-a-status-and-two-words :
-    statusLine 0x2800 (0x1111 ∷ 0x2222 ∷ [])
-    ≡ 83 ∷ 32 ∷ 50 ∷ 56 ∷ 48 ∷ 48 ∷ 32 ∷ 49 ∷ 49 ∷ 49 ∷ 49 ∷ 32 ∷ 50 ∷ 50 ∷ 50 ∷ 50 ∷ 10 ∷ []
-unfolding statusLine eachWord hexWord hexDigit
-a-status-and-two-words = refl
-
--- `Q 8002`
-the-queue-of-the-run : queueLine 0x8002 ≡ 81 ∷ 32 ∷ 56 ∷ 48 ∷ 48 ∷ 50 ∷ 10 ∷ []
-unfolding queueLine hexWord hexDigit
-the-queue-of-the-run = refl
-
--- `END 8`
-the-end-of-the-run : endLine 8 ≡ 69 ∷ 78 ∷ 68 ∷ 32 ∷ 56 ∷ 10 ∷ []
-unfolding endLine decimal decimalBy
-the-end-of-the-run = refl
-
--- `END 0`
-the-end-of-an-empty-input : endLine 0 ≡ 69 ∷ 78 ∷ 68 ∷ 32 ∷ 48 ∷ 10 ∷ []
-unfolding endLine decimal decimalBy
-the-end-of-an-empty-input = refl
-
--- `! 8 21`
-a-refusal : refusalLine 8 21 ≡ 33 ∷ 32 ∷ 56 ∷ 32 ∷ 50 ∷ 49 ∷ 10 ∷ []
-unfolding refusalLine decimal decimalBy
-a-refusal = refl
-
--- ---- digits
-
--- `ABCD`
-capitals : hexWord 0xABCD ≡ 65 ∷ 66 ∷ 67 ∷ 68 ∷ []
-unfolding hexWord hexDigit
-capitals = refl
-
--- `EF`
-more-capitals : hexByte 0xEF ≡ 69 ∷ 70 ∷ []
-unfolding hexByte hexDigit
-more-capitals = refl
-
--- `000A`
-leading-zeros-are-kept-in-hex : hexWord 10 ≡ 48 ∷ 48 ∷ 48 ∷ 65 ∷ []
-unfolding hexWord hexDigit
-leading-zeros-are-kept-in-hex = refl
-
--- `1000`
-zeros-inside-a-number : decimal 1000 ≡ 49 ∷ 48 ∷ 48 ∷ 48 ∷ []
-unfolding decimal decimalBy
-zeros-inside-a-number = refl
 
 -- `18446744073709551615`
 the-largest-number :
@@ -100,11 +45,6 @@ a-byte-in-the-middle :
     written 2 (1 ∷ 2 ∷ 3 ∷ 4 ∷ []) 1 (hexByte 0x0F) ≡ put 3 (1 ∷ 48 ∷ 70 ∷ 4 ∷ [])
 unfolding written stored hexByte hexDigit
 a-byte-in-the-middle = refl
-
-the-longest-line-has-167-bytes :
-    statusWritten (zeros lineRoom) 0 0xFFFF (replicate 32 0xFFFF) .next ≡ 167
-unfolding zeros statusWritten written stored statusLine eachWord hexWord
-the-longest-line-has-167-bytes = refl
 
 thirty-three-words-are-not-written :
     statusWritten (zeros 200) 0 0x2800 (replicate 33 0x1111) ≡ put 0 (zeros 200)

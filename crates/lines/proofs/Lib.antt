@@ -8,7 +8,7 @@
 --     LoopLaws       the loops over words and bytes
 --     LineLaws       a line on each way that the code takes
 --     Determined     each public contract allows one outcome alone
---     Examples       the definitions at work, by computation
+--     Examples       what no run shows, by computation
 pub mod WrittenLaws
 pub mod Callers
 pub mod Lengths

@@ -11,7 +11,7 @@
 --     TakenWords     the words of a host write that was taken
 --     Shifted        a recording read as if it began further on
 --     Determined     each public contract allows one outcome alone
---     Examples       the definitions at work, by computation
+--     Examples       what no run shows, by computation
 mod Theorems
 pub mod FieldLaws
 pub mod ReadingLaws

@@ -2,13 +2,10 @@
 -- after a run. A run is told as a recording tells it, event by event, with document 01's numbers:
 -- the station is 5, the table is block 1, the memory begins as zeros. Assumes nothing.
 use mathlib.Core.Bool.{true, false}
-use mathlib.Core.List.{List, [], _∷_, _++_}
+use mathlib.Core.List.{List, [], _∷_}
 use Prim.Native.Nat.{ℕ}
 use lib.ListN.{getD, replicate}
-use Rattle.card.specs.Memory.{cardWords, theBlock, theCell, wordAddress, cellAt}
-use Rattle.terminal.specs.declared.state.Shut.{Shut}
-use Rattle.message.specs.declared.state.Message.{Message}
-use Rattle.message.specs.declared.state.Message.the-variants.{Idle, Open}
+use Rattle.card.specs.Memory.{cardWords, theBlock, theCell, wordAddress}
 use Rattle.queue.specs.Queue.{emptyQueue}
 use Rattle.terminal.specs.State.{Card, card, coreAtSetup}
 use Rattle.terminal.specs.declared.state.Answer.{Answer}
@@ -34,20 +31,11 @@ commandB = heard 0x07
 abbrev pub joinedA : ℕ → ℕ → Event
 joinedA = heard 0x0E
 
-abbrev pub joinedB : ℕ → ℕ → Event
-joinedB = heard 0x0F
-
 -- a data word: data sync, sound, joined
 abbrev pub dataA : ℕ → ℕ → Event
 dataA = heard 0x0C
 
-abbrev pub dataB : ℕ → ℕ → Event
-dataB = heard 0x0D
-
--- a data word that is not joined, and one that is joined and unsound
-abbrev pub looseA : ℕ → ℕ → Event
-looseA = heard 0x04
-
+-- a data word that is joined and unsound
 abbrev pub unsoundA : ℕ → ℕ → Event
 unsoundA = heard 0x08
 
@@ -62,15 +50,12 @@ abbrev pub put : ℕ → ℕ → ℕ → Event
 put block cell value = hostWrite (wordAddress (theBlock block) (theCell cell)) (value ∷ [])
 
 -- the events of document 01's run: a receive command for two words to subaddress 3, the two data
--- words, a silence; and the same command with direction 1, and to all stations
+-- words, a silence; and the same command with direction 1
 abbrev pub receive : Event
 receive = commandA 0x2862 0x28
 
 abbrev pub transmit : Event
 transmit = commandA 0x2C62 0x28
-
-abbrev pub broadcast : Event
-broadcast = commandA 0xF862 0x28
 
 abbrev pub word1 : Event
 word1 = dataA 0x1111 0x3C
@@ -80,13 +65,6 @@ word2 = dataA 0x2222 0x50
 
 abbrev pub quiet : Event
 quiet = silenceA 0x64
-
--- the receive message whole, and mode code 18 after it
-abbrev pub received : List Event
-received = receive ∷ word1 ∷ word2 ∷ quiet ∷ []
-
-abbrev pub code18 : List Event
-code18 = commandA 0x2C12 0x78 ∷ silenceA 0x8C ∷ []
 
 -- ---- where a run starts
 
@@ -119,11 +97,6 @@ chained =
 
 -- ---- what is looked at
 
--- the command of an open message, 0 where nothing is open
-unfoldable pub commandOf : Message → ℕ
-commandOf Idle = 0
-commandOf (Open message) = message .command
-
 -- the words at some addresses
 unfoldable pub wordsAt : List ℕ → List ℕ → List ℕ
 wordsAt [] ram = []
@@ -140,40 +113,12 @@ lastOutcome [] old = quietly old
 lastOutcome (event ∷ []) old = step event old
 lastOutcome (event ∷ next ∷ events) old = lastOutcome (next ∷ events) (step event old .card)
 
--- the answer to the last event of a run over the five chains
-abbrev pub answerTo : List Event → Answer
-answerTo events = lastOutcome events chained .answer
-
--- the answers that commands get where each, after the same events, stands alone before a silence
-unfoldable pub repliesAfter : List Event → List ℕ → List Answer
-repliesAfter events [] = []
-repliesAfter events (command ∷ commands) =
-    answerTo (events ++ commandA command 0x28 ∷ quiet ∷ []) ∷ repliesAfter events commands
-
 -- the card after a run over the five chains
 unfoldable pub cardAfter : List Event → Card
 cardAfter events = run events chained
 
-abbrev pub cellAfter : List Event → ℕ → ℕ → ℕ
-cellAfter events block cell = cellAt (cardAfter events .ram) (theBlock block) (theCell cell)
-
--- the remembered status
-abbrev pub statusAfter : List Event → ℕ
-statusAfter events = cardAfter events .core .status
-
-abbrev pub shutAfter : List Event → Shut
-shutAfter events = cardAfter events .core .shut
-
-abbrev pub openAfter : List Event → ℕ
-openAfter events = commandOf (cardAfter events .core .message)
-
--- how the message of a block was closed: its state word, cell 58; then the remembered status, and
--- the command that is open, 0 for none
-abbrev pub closedAs : ℕ → List Event → List ℕ
-closedAs block events = cellAfter events block 58 ∷ statusAfter events ∷ openAfter events ∷ []
-
 -- ---- to unfold `runs` is to unfold the machine and what tells its runs
 
 unfoldable pub runs : ℕ
-unfolding machine atSetup chained commandOf wordsAt answers lastOutcome repliesAfter cardAfter
+unfolding machine atSetup chained wordsAt answers lastOutcome cardAfter
 runs = 0

@@ -1,1 +1,1 @@
-// Worked runs of the terminal. There is no code here: see proofs/Lib.antt.
+// The marked cases and theorems at work. There is no code here: see proofs/Lib.antt.

@@ -1,76 +1,16 @@
--- The lines of state and cells at work, by computation: those that document 01's run leaves, and a
--- few more. Assumes nothing.
+-- The line of an open message and a text that is cut, by computation; the other worked cases are in
+-- `tests/cases.py`. Assumes nothing.
 use mathlib.Core.Path.{_≡_, refl}
 use mathlib.Core.Bool.{true, false}
 use mathlib.Core.List.{[], _∷_, _++_}
-use lib.ListN.{replicate}
 use Rattle.card.specs.Memory.{theBlock}
-use Rattle.queue.specs.Queue.{ringOf}
 use Rattle.message.specs.declared.state.Stage.the-variants.{AwaitingStatus}
 use Rattle.message.specs.declared.state.Second.the-variants.{Command}
-use Rattle.message.specs.declared.state.Message.the-variants.{Idle, Open}
-use Rattle.tray.specs.AsCoded.Held.{runAtStart}
-use Rattle.lines.specs.Digits.{hexDigit, hexByte, hexWord, decimal, decimalBy}
+use Rattle.message.specs.declared.state.Message.the-variants.{Open}
+use Rattle.lines.specs.Digits.{hexDigit, hexWord, decimal, decimalBy}
 use Rattle.lines.specs.Written.{put, stored}
 use Rattle.tray_cells.specs.Text.{bytes, fitted}
-use Rattle.tray_cells.specs.State.{
-  openingText,
-  fixedText,
-  progressText,
-  messageText,
-  blocksFrom,
-  eachBlock,
-  waitingText,
-  queueText,
-  wordsText,
-  rememberedText,
-  switchesText,
-  coreText,
-  terminalText,
-  stateText,
-}
-use Rattle.tray_cells.specs.Cells.{cellLines}
-
--- ---- the state
-
-the-state-of-the-run :
-    stateText
-    (record {
-      held =
-          record {
-            core =
-                record {
-                  station = 5;
-                  table = theBlock 1;
-                  flags = 0;
-                  status = 0x2800;
-                  last = 0x2862;
-                  shut = record { a = false; b = false };
-                  inhibit = false;
-                  message = Idle;
-                };
-            ring = ringOf 1 0 false;
-          };
-      begun = true;
-      fields = 8;
-      offset = 79;
-    })
-    (replicate 256 0)
-    ≡ bytes "station 5\ntable 1\nflags 00\nstatus 2800\nlast 2862\nshut A 0\nshut B 0\n"
-    ++ bytes "inhibit 0\noverflow 0\nwaiting none\nopen none\n"
-unfolding stateText terminalText coreText wordsText rememberedText switchesText queueText
-    waitingText messageText hexByte hexWord hexDigit decimal decimalBy
-the-state-of-the-run = refl
-
-no-terminal-before-a-setup : stateText runAtStart [] ≡ bytes "terminal none\n"
-unfolding stateText runAtStart
-no-terminal-before-a-setup = refl
-
-blocks-wait-round-the-ring :
-    queueText (7 ∷ replicate 254 0 ++ (250 ∷ [])) (ringOf 255 2 true)
-    ≡ bytes "overflow 1\nwaiting 250 7\n"
-unfolding queueText waitingText blocksFrom eachBlock decimal decimalBy
-blocks-wait-round-the-ring = refl
+use Rattle.tray_cells.specs.State.{openingText, fixedText, progressText, messageText}
 
 an-open-message :
     messageText
@@ -91,16 +31,6 @@ an-open-message :
     ++ bytes "taken 10 second 3062 stage awaiting\n"
 unfolding messageText openingText fixedText progressText hexWord hexDigit decimal decimalBy
 an-open-message = refl
-
--- ---- cells
-
-zeros-have-no-line :
-    cellLines 0x0080 (0x1111 ∷ 0x2222 ∷ 0 ∷ 0xABCD ∷ 0 ∷ [])
-    ≡ bytes "0080 1111\n0081 2222\n0083 ABCD\n"
-unfolding cellLines hexWord hexDigit
-zeros-have-no-line = refl
-
--- ---- the buffer
 
 a-text-is-cut-where-the-buffer-ends :
     fitted (1 ∷ 2 ∷ 3 ∷ 4 ∷ []) 2 (bytes "ABC") ≡ put 4 (1 ∷ 2 ∷ 65 ∷ 66 ∷ [])

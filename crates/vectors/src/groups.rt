@@ -1,65 +1,34 @@
 // The walk of the cases: group by group, and case by case within a group.
-use crate::messages;
+use crate::calls;
 use crate::notation;
 use crate::recordings;
-use crate::refusals;
 use crate::report;
 use crate::report::Score;
-use crate::setups;
-use crate::states;
-use crate::waiting;
-use io;
 
-// ---- a case
-
-// A kind that is not known has no case that holds.
-fn row_holds(kind: u8, row: &[u8]) -> bool {
-    match kind {
-        b'm' => messages::holds(row),
-        b'q' => waiting::holds(row),
-        b's' => setups::holds(row),
-        b't' => states::holds(row),
-        b'a' => refusals::holds(row),
+// Whether a case of a group comes out right. One of a kind in capitals has something wrong in it,
+// and must differ. A kind that is not known has no case that is right.
+fn is_right(group: &[u8], before: &[u8], text: &[u8]) -> bool {
+    match notation::byte_in(group, 0) {
+        b'r' => recordings::holds(before, text),
+        b'R' => !recordings::holds(before, text),
+        b'c' => calls::holds(text),
+        b'C' => !calls::holds(text),
         _ => false,
     }
 }
 
-fn holds(kind: u8, text: &[u8]) -> bool {
-    if kind == b'r' {
-        return recordings::holds(text);
-    }
-    let mut bytes = io::buffer();
-    let row: &mut [u8] = &mut bytes;
-    let size = notation::read_hex(text, row);
-    row_holds(kind, notation::part(row, 0, size))
-}
-
-// Whether a case comes out as it should. One of a kind in capitals has something wrong in it, and
-// must differ.
-fn is_right(kind: u8, text: &[u8]) -> bool {
-    match kind {
-        b'R' => !holds(b'r', text),
-        b'M' => !holds(b'm', text),
-        b'Q' => !holds(b'q', text),
-        b'S' => !holds(b's', text),
-        b'T' => !holds(b't', text),
-        b'A' => !holds(b'a', text),
-        _ => holds(kind, text),
-    }
-}
-
-// ---- a group
-
-fn run_cases(name: &[u8], kind: u8, text: &[u8]) -> Score {
+// The cases of a group, each behind what comes before them.
+fn run_cases(name: &[u8], text: &[u8], first: usize, before: &[u8]) -> Score {
     let mut score = Score::none();
-    let mut at = notation::after(text, 0, b'*');
+    let mut at = first;
     let mut left = text.len();
     while left > 0 {
         if text.len() <= at {
             break;
         }
         let end = notation::after(text, at, b'*');
-        score = report::judge(score, name, is_right(kind, notation::part(text, at, end)));
+        let right = is_right(text, before, notation::part(text, at, end));
+        score = report::judge(score, name, right);
         at = end;
         left -= 1;
     }
@@ -69,7 +38,9 @@ fn run_cases(name: &[u8], kind: u8, text: &[u8]) -> Score {
 // The group of a text that begins with its kind, a blank and its name.
 fn run_group(text: &[u8]) -> Score {
     let name = notation::part(text, 2, notation::place_of(text, 2, b'\n'));
-    let score = run_cases(name, notation::byte_in(text, 0), text);
+    let first = notation::after(text, 0, b'*');
+    let before = notation::part(text, notation::after(text, 0, b'^'), first);
+    let score = run_cases(name, text, first, before);
     report::print_score(name, score);
     score
 }

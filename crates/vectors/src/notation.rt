@@ -1,25 +1,26 @@
 // How the cases are written, on standard input. A group begins with an at sign, its kind, a blank
 // and its name, to the line's end:
 //
-//     r  recordings    m  messages    q  the queue
-//     s  setups        t  states      a  actions
+//     r  recordings    c  calls
 //
 // The kind in capitals is of cases that must differ: each is one that holds, but for one thing wrong
-// in what it should be. It comes out right if the comparison says that it differs.
+// in what it should be. It comes out right if the comparison says that it differs. Remarks and, after
+// a caret, the recording that every case of the group begins with come before the first case.
 //
 // A case begins with a star. One that is a recording:
 //
 //     * what it shows
 //     the recording, in 01's notation: hex, blanks and semicolons for the eye only
-//     >the lines that it must print, a semicolon for the newline of each
-//     = remembered status, last command, marks, blocks that wait; then every nonzero cell, rising,
-//     as address and word
+//     >
+//     the lines that it must print
+//     = remembered status, last command, marks, blocks that wait; the open message, where there is
+//     one; then every nonzero cell, rising, as address and word
 //
-// The marks are a byte: bit 0 line A shut, 1 line B shut, 2 inhibit, 3 overflow; the high digit is
-// 0 where nothing is open, else the stage: 1 data, 2 second command, 3 awaiting status, 4 skipping.
-// Where no setup was taken, status, last command, marks and count are zero.
+// The marks are a byte: bit 0 line A shut, 1 line B shut, 2 inhibit, 3 overflow. Of an open message
+// there are command, block and stage: 1 data, 2 second command, 3 awaiting status, 4 skipping. Where
+// no setup was taken the status is F800, that of no station.
 //
-// Every other case is a row of words in hex. A remark goes from a number sign to the line's end.
+// A case that is a call is a row of words in hex, to the line's end.
 
 // A part of the text, empty where its ends are not in order.
 pub(crate) fn part(text: &[u8], start: usize, end: usize) -> &[u8] {
@@ -87,12 +88,10 @@ fn digit(byte: u8) -> u8 {
     16
 }
 
-// How far a reading has come: the bytes that were put, the high digit of the next, 16 for none, and
-// whether a remark is being passed over.
+// How far a reading has come: the bytes that were put, and the high digit of the next, 16 for none.
 struct Pairing {
     count: usize,
     high: u8,
-    remark: bool,
 }
 
 fn pair(out: &mut [u8], old: Pairing, low: u8) -> Pairing {
@@ -103,49 +102,25 @@ fn pair(out: &mut [u8], old: Pairing, low: u8) -> Pairing {
         return Pairing {
             count: old.count,
             high: low,
-            remark: false,
         };
     }
     let byte = (old.high % 16) * 16 + low % 16;
     Pairing {
         count: put_byte(out, old.count, byte),
         high: 16,
-        remark: false,
     }
 }
 
-fn with_remark(old: Pairing, remark: bool) -> Pairing {
-    Pairing {
-        count: old.count,
-        high: old.high,
-        remark: remark,
-    }
-}
-
-fn turn(out: &mut [u8], old: Pairing, byte: u8) -> Pairing {
-    if byte == b'#' {
-        return with_remark(old, true);
-    }
-    if byte == b'\n' {
-        return with_remark(old, false);
-    }
-    if old.remark {
-        return old;
-    }
-    pair(out, old, digit(byte))
-}
-
-// The bytes that a text's hex digits spell, two by two; every other byte is for the eye. Answers
-// how many they are.
-pub(crate) fn read_hex(text: &[u8], out: &mut [u8]) -> usize {
+// Puts the bytes that a text's hex digits spell, two by two, from a place on; every other byte is
+// for the eye. Answers the next place.
+pub(crate) fn read_hex(text: &[u8], out: &mut [u8], from: usize) -> usize {
     let mut pairing = Pairing {
-        count: 0,
+        count: from,
         high: 16,
-        remark: false,
     };
     let mut at: usize = 0;
     while at < text.len() {
-        pairing = turn(out, pairing, text[at]);
+        pairing = pair(out, pairing, digit(text[at]));
         at += 1;
     }
     pairing.count
@@ -161,36 +136,8 @@ pub(crate) fn byte_in(row: &[u8], column: usize) -> u8 {
     0
 }
 
-fn word_of(high: u8, low: u8) -> u16 {
-    (high as u16) * 256 + (low as u16)
-}
-
 // A column of a row of words, high byte first.
 pub(crate) fn word_in(row: &[u8], column: usize) -> u16 {
     let at = column % 128 * 2;
-    word_of(byte_in(row, at), byte_in(row, at + 1))
-}
-
-// ---- printed lines
-
-// A semicolon stands for the newline.
-fn printed(byte: u8) -> u8 {
-    if byte == b';' {
-        return b'\n';
-    }
-    byte
-}
-
-// The lines that a text stands for, up to its own newline. Answers how many bytes they have.
-pub(crate) fn read_lines(text: &[u8], out: &mut [u8]) -> usize {
-    let mut count: usize = 0;
-    let mut at: usize = 0;
-    while at < text.len() {
-        if text[at] == b'\n' {
-            return count;
-        }
-        count = put_byte(out, count, printed(text[at]));
-        at += 1;
-    }
-    count
+    (byte_in(row, at) as u16) * 256 + (byte_in(row, at + 1) as u16)
 }

@@ -5,8 +5,8 @@ use check;
 use io;
 use message::state::Message;
 use message::state::Stage;
-use terminal::state::Held;
-use terminal::state::Shut;
+use queue::Ring;
+use terminal::state::Core;
 use tray;
 use tray::Run;
 
@@ -19,54 +19,40 @@ fn weigh(mark: bool, weight: u8) -> u8 {
     0
 }
 
-fn stage_mark(stage: Stage) -> u8 {
+fn marks_of(core: Core, ring: Ring) -> u8 {
+    let shut = core.shut;
+    let lines = weigh(shut.a, 1) | weigh(shut.b, 2);
+    lines | weigh(core.inhibit, 4) | weigh(ring.overflow, 8)
+}
+
+fn number_of(stage: Stage) -> u8 {
     match stage {
-        Stage::Data => 16,
-        Stage::SecondCommand => 32,
-        Stage::AwaitingStatus => 48,
-        Stage::Skipping => 64,
+        Stage::Data => 1,
+        Stage::SecondCommand => 2,
+        Stage::AwaitingStatus => 3,
+        Stage::Skipping => 4,
     }
 }
 
-fn message_mark(message: Message) -> u8 {
+fn put_message(out: &mut [u8], at: usize, message: Message) -> usize {
     match message {
-        Message::Idle => 0,
-        Message::Open(held) => {
-            let stage = held.stage;
-            stage_mark(stage)
+        Message::Idle => at,
+        Message::Open(open) => {
+            let stage = open.stage;
+            let command = notation::put_word(out, at, open.command);
+            let block = notation::put_word(out, command, open.block);
+            notation::put_byte(out, block, number_of(stage))
         }
     }
 }
 
-fn shut_mark(shut: Shut) -> u8 {
-    weigh(shut.a, 1) | weigh(shut.b, 2)
-}
-
-fn marks_of(held: Held) -> u8 {
-    let core = held.core;
-    let ring = held.ring;
-    let shut = core.shut;
+pub(crate) fn put_state(out: &mut [u8], at: usize, core: Core, ring: Ring) -> usize {
     let message = core.message;
-    let open = message_mark(message);
-    shut_mark(shut) | weigh(core.inhibit, 4) | weigh(ring.overflow, 8) | open
-}
-
-fn put_state(out: &mut [u8], held: Held) -> usize {
-    let core = held.core;
-    let ring = held.ring;
-    let first = notation::put_word(out, 0, core.status);
-    let second = notation::put_word(out, first, core.last);
-    let third = notation::put_byte(out, second, marks_of(held));
-    notation::put_byte(out, third, (ring.count % 256) as u8)
-}
-
-// Where no setup was taken there is no state, and its bytes stay zero.
-fn put_begun(out: &mut [u8], run: Run) -> usize {
-    if run.begun {
-        let held = run.held;
-        return put_state(out, held);
-    }
-    6
+    let status = notation::put_word(out, at, core.status);
+    let last = notation::put_word(out, status, core.last);
+    let marks = notation::put_byte(out, last, marks_of(core, ring));
+    let waiting = notation::put_byte(out, marks, (ring.count % 256) as u8);
+    put_message(out, waiting, message)
 }
 
 fn put_cell(out: &mut [u8], at: usize, address: u16, word: u16) -> usize {
@@ -88,63 +74,50 @@ fn put_cells(out: &mut [u8], at: usize, ram: &[u16; 16384]) -> usize {
 
 // ---- a case
 
-// How many bytes of lines a run printed, and how many bytes its state and cells have.
+// How many bytes of lines a run printed, and how many bytes there are with what it leaves.
 struct Sizes {
     lines: usize,
-    state: usize,
+    all: usize,
 }
 
-// Runs a recording on a new card.
-fn run_recording(recording: &[u8], lines: &mut [u8], state: &mut [u8]) -> Sizes {
+// Runs a recording on a new card. Puts its lines and what it leaves.
+fn run_recording(recording: &[u8], out: &mut [u8]) -> Sizes {
     let mut places: [u16; 256] = [0; 256];
     let mut ram: [u16; 16384] = [0; 16384];
-    let start = Run::at_start();
-    let ran = tray::run_window(start, &mut places, &mut ram, recording, lines, true);
+    let ran = tray::run_window(Run::at_start(), &mut places, &mut ram, recording, out, true);
     let run = ran.run;
-    let first = put_begun(state, run);
-    let second = put_cells(state, first, &ram);
+    let held = run.held;
+    let core = held.core;
+    let ring = held.ring;
+    let next = put_state(out, ran.put, core, ring);
     Sizes {
         lines: ran.put,
-        state: second,
+        all: put_cells(out, next, &ram),
     }
 }
 
-// Whether the lines that were printed are those of the text.
-fn lines_hold(text: &[u8], lines: &[u8]) -> bool {
-    let mut bytes = io::buffer();
-    let wanted: &mut [u8] = &mut bytes;
-    let count = notation::read_lines(text, wanted);
-    check::same(notation::part(wanted, 0, count), lines)
+// Whether a recording prints the lines of a text, and leaves what it says behind them.
+fn leaves(recording: &[u8], text: &[u8]) -> bool {
+    let mut bytes = io::large_buffer();
+    let sizes = run_recording(recording, &mut bytes);
+    let end = notation::place_of(text, 0, b'=');
+    let mut wanted = io::large_buffer();
+    let count = notation::read_hex(notation::part(text, end, text.len()), &mut wanted, 0);
+    let state = notation::part(&bytes, sizes.lines, sizes.all);
+    check::same(
+        notation::part(&bytes, 0, sizes.lines),
+        notation::part(text, 0, end),
+    )
+        & check::same(state, notation::part(&wanted, 0, count))
 }
 
-// Whether the state and the cells are those of the text.
-fn state_holds(text: &[u8], state: &[u8]) -> bool {
-    let mut bytes = io::buffer();
-    let wanted: &mut [u8] = &mut bytes;
-    let count = notation::read_hex(text, wanted);
-    check::same(notation::part(wanted, 0, count), state)
-}
-
-// Whether a recording leaves the lines of a text, and the state of another.
-fn recording_holds(recording: &[u8], printed: &[u8], left: &[u8]) -> bool {
-    let mut first = io::buffer();
-    let lines: &mut [u8] = &mut first;
-    let mut second = io::buffer();
-    let state: &mut [u8] = &mut second;
-    let sizes = run_recording(recording, lines, state);
-    let right = lines_hold(printed, notation::part(lines, 0, sizes.lines));
-    right & state_holds(left, notation::part(state, 0, sizes.state))
-}
-
-// Whether a case comes out as it should.
-pub(crate) fn holds(text: &[u8]) -> bool {
+// Whether a case comes out as it should, behind what its group begins with.
+pub(crate) fn holds(before: &[u8], text: &[u8]) -> bool {
     let start = notation::after(text, 0, b'\n');
-    let lines = notation::after(text, start, b'>');
-    let state = notation::after(text, lines, b'=');
-    let mut bytes = io::buffer();
-    let recording: &mut [u8] = &mut bytes;
-    let count = notation::read_hex(notation::part(text, start, lines), recording);
-    let printed = notation::part(text, lines, state);
-    let left = notation::part(text, state, text.len());
-    recording_holds(notation::part(recording, 0, count), printed, left)
+    let end = notation::after(text, start, b'>');
+    let mut bytes = io::large_buffer();
+    let size = notation::read_hex(before, &mut bytes, 0);
+    let count = notation::read_hex(notation::part(text, start, end), &mut bytes, size);
+    let lines = notation::part(text, notation::after(text, end, b'\n'), text.len());
+    leaves(notation::part(&bytes, 0, count), lines)
 }

@@ -22,39 +22,30 @@ impl Score {
     }
 }
 
-// A group's name and a number after a blank.
-fn print_named(name: &[u8], number: u64) {
+// A group's name, a number, and what follows it.
+fn print(name: &[u8], number: u64, rest: &[u8]) {
     io::write_all(STDOUT_FILENO, name);
     io::write_all(STDOUT_FILENO, b" ");
     io::print_decimal(STDOUT_FILENO, number);
+    io::write_all(STDOUT_FILENO, rest);
 }
 
 // The line of a group, as `rules 31 of 31`.
 pub(crate) fn print_score(name: &[u8], score: Score) {
-    print_named(name, score.right);
-    io::write_all(STDOUT_FILENO, b" of ");
+    print(name, score.right, b" of ");
     io::print_decimal(STDOUT_FILENO, score.tried);
     io::write_all(STDOUT_FILENO, b"\n");
 }
 
-// The line of a case that differs, as `rules 7 differs`.
-fn print_difference(name: &[u8], number: u64) {
-    print_named(name, number);
-    io::write_all(STDOUT_FILENO, b" differs\n");
-}
-
-// One case more. Cases are counted from 1 within their group.
+// One case more. One that differs has a line, as `rules 7 differs`: cases are counted from 1 within
+// their group.
 pub(crate) fn judge(score: Score, name: &[u8], right: bool) -> Score {
-    let tried = num::wrapping_add_u64(score.tried, 1);
-    if right {
-        return Score {
-            right: num::wrapping_add_u64(score.right, 1),
-            tried: tried,
-        };
+    let next = score.plus(Score {
+        right: right as u64,
+        tried: 1,
+    });
+    if !right {
+        print(name, next.tried, b" differs\n");
     }
-    print_difference(name, tried);
-    Score {
-        right: score.right,
-        tried: tried,
-    }
+    next
 }

@@ -5,22 +5,19 @@ use Rattle.vectors.proofs.groups.run_cases.Statement.{statement}
 use Rattle.vectors.proofs.groups.run_cases.Tie as tie
 
 abbrev Inv-loop : tie.InvT-loop
-Inv-loop name kind text score₀ at₀ left₀ score at left = Unit {0}
+Inv-loop name text first before score₀ at₀ left₀ score at left = Unit {0}
 
 abbrev μ-loop : tie.MeasureT-loop
-μ-loop name kind text score₀ at₀ left₀ score at left = left
+μ-loop name text first before score₀ at₀ left₀ score at left = left
 
 none-requires : tie.Need-none-requires Inv-loop μ-loop
 none-requires c κs = search needs
 
-after-requires : tie.Need-after-requires Inv-loop μ-loop
-after-requires c κs = search needs
-
 loop-holds : tie.Need-loop-holds Inv-loop μ-loop
 loop-holds c = tt
 
-after-requires-2 : tie.Need-after-requires-2 Inv-loop μ-loop
-after-requires-2 c = search needs
+after-requires : tie.Need-after-requires Inv-loop μ-loop
+after-requires c = search needs
 
 part-requires : tie.Need-part-requires Inv-loop μ-loop
 part-requires c κs = search needs
@@ -53,9 +50,8 @@ run-cases-spec =
     Inv-loop
     μ-loop
     none-requires
-    after-requires
     loop-holds
-    after-requires-2
+    after-requires
     part-requires
     is-right-requires
     judge-requires

@@ -8,19 +8,22 @@ use Rattle.vectors.proofs.notation.read_hex.Statement.{statement}
 use Rattle.vectors.proofs.notation.read_hex.Tie as tie
 
 abbrev Inv-loop : tie.InvT-loop
-Inv-loop text out₀ pairing₀ at₀ out pairing at = length out ≡ length out₀
+Inv-loop text out₀ from pairing₀ at₀ out pairing at = length out ≡ length out₀
 
 abbrev μ-loop : tie.MeasureT-loop
-μ-loop text out₀ pairing₀ at₀ out pairing at = length text - at
+μ-loop text out₀ from pairing₀ at₀ out pairing at = length text - at
 
 loop-holds : tie.Need-loop-holds Inv-loop μ-loop
 loop-holds c = search needs
 
-shared-slice-read-turn : tie.Need-shared-slice-read-turn Inv-loop μ-loop
-shared-slice-read-turn c = search needs
+shared-slice-read-digit : tie.Need-shared-slice-read-digit Inv-loop μ-loop
+shared-slice-read-digit c = search needs
 
-turn-requires : tie.Need-turn-requires Inv-loop μ-loop
-turn-requires c κs = search needs
+digit-requires : tie.Need-digit-requires Inv-loop μ-loop
+digit-requires c κs = search needs
+
+pair-requires : tie.Need-pair-requires Inv-loop μ-loop
+pair-requires c κs = search needs
 
 add-at : tie.Need-add-at Inv-loop μ-loop
 add-at c = search needs
@@ -44,8 +47,9 @@ read-hex-spec =
     Inv-loop
     μ-loop
     loop-holds
-    shared-slice-read-turn
-    turn-requires
+    shared-slice-read-digit
+    digit-requires
+    pair-requires
     add-at
     loop-less
     loop-again

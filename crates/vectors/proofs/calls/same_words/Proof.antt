@@ -1,12 +1,12 @@
--- `vectors::traffic::same_words` meets its contract. The invariant of its loop is `SoFar`; the
+-- `vectors::calls::same_words` meets its contract. The invariant of its loop is `SoFar`; the
 -- measure is how many words are left. Assumes nothing.
 use mathlib.Core.Path.{_≡_}
 use Prim.Native.Nat.{_-_}
 use lib.ListN.{length}
 use borrow.Author.Needs.{needs}
 use Rattle.vectors.proofs.SameLaws.{SoFar, start, other-lengths, other-word, turn, end}
-use Rattle.vectors.proofs.traffic.same_words.Statement.{statement}
-use Rattle.vectors.proofs.traffic.same_words.Tie as tie
+use Rattle.vectors.proofs.calls.same_words.Statement.{statement}
+use Rattle.vectors.proofs.calls.same_words.Tie as tie
 
 abbrev Inv-loop : tie.InvT-loop
 Inv-loop first second word₀ word =

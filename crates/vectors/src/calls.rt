@@ -1,0 +1,171 @@
+// A call of one of the library's actions, with its refusal: numbers in the library's order 1, 4, 2,
+// 3, 8. What is refused leaves the terminal and the RAM as they were given. The words of a row:
+// action, two arguments, words of RAM, refusal, 0 for none; then the terminal (`given`). Actions:
+//
+//     0  setup, of the terminal's station, table block and flags
+//     1  word: marks           2  silence: line     3  host write: address, count of words
+//     4  queue read            5  table block       6  flags
+//     7  words to send: block, count
+ghost use Rattle.vectors.specs.Same.{Compared};
+use crate::given;
+use crate::notation;
+use crate::recordings;
+use actions::Answered;
+use actions::Done;
+use actions::Terminal;
+use card::sent;
+use check;
+use io;
+
+// ---- the actions
+
+// The number of an action that left something wrong.
+const WRONG: u8 = 255;
+
+fn number_if(right: bool, number: u8) -> u8 {
+    if right {
+        return number;
+    }
+    WRONG
+}
+
+fn done(answered: Answered) -> Done {
+    let left = answered.terminal;
+    Done {
+        refusal: answered.refusal,
+        terminal: left,
+    }
+}
+
+fn write(terminal: Terminal, ram: &mut [u16], address: u16, count: u16) -> Done {
+    let words: [u16; 65] = [0x5555; 65];
+    let end = (count % 66) as usize;
+    terminal.host_write(ram, address, &words[0..end])
+}
+
+// A read that is refused has no word.
+fn read(terminal: Terminal) -> Done {
+    let answered = terminal.read_queue();
+    let left = answered.terminal;
+    let right = (answered.refusal == 0) | (answered.word == 0);
+    Done {
+        refusal: number_if(right, answered.refusal),
+        terminal: left,
+    }
+}
+
+// A part that is refused is empty; one that is shown has the words that were asked for.
+fn part(terminal: Terminal, ram: &[u16], block: u16, count: u16) -> Done {
+    let number = sent::refusal(ram, block, count);
+    let shown = sent::part(ram, block, count).len();
+    let right = ((number == 0) & (shown == count as usize)) | ((number != 0) & (shown == 0));
+    Done {
+        refusal: number_if(right, number),
+        terminal: terminal,
+    }
+}
+
+// What setup refuses is no terminal: every action refuses it with 4.
+fn setup(given: Terminal) -> Done {
+    let core = given.core;
+    let made = Terminal::setup(core.station, core.table, core.flags);
+    let new = made.terminal;
+    let right = (made.refusal == 0) == new.is_fit();
+    Done {
+        refusal: number_if(right, made.refusal),
+        terminal: given,
+    }
+}
+
+fn perform(given: Terminal, ram: &mut [u16], row: &[u8]) -> Done {
+    let first = notation::word_in(row, 1);
+    let second = notation::word_in(row, 2);
+    match notation::word_in(row, 0) {
+        0 => setup(given),
+        1 => done(given.word(ram, (first % 256) as u8, 0x2C61, 9)),
+        2 => done(given.silence(ram, (first % 256) as u8, 9)),
+        3 => write(given, ram, first, second),
+        4 => read(given),
+        5 => given.move_table(first),
+        6 => given.set_flags(first),
+        _ => part(given, ram, first, second),
+    }
+}
+
+// ---- what is left
+
+// Whether two rows of words are the same.
+fn same_words(first: &[u16], second: &[u16]) -> bool
+    ensures { λ same. ⌜ Compared (now (first .entry)) (now (second .entry)) same ⌝ }
+{
+    if first.len() != second.len() {
+        return false;
+    }
+    let mut word: usize = 0;
+    while word < first.len() {
+        if first[word] != second[word] {
+            return false;
+        }
+        word += 1;
+    }
+    true
+}
+
+// The numbers of a terminal that a recording's case does not show, then those that it does.
+fn put_terminal(out: &mut [u8], terminal: Terminal) -> usize {
+    let core = terminal.core;
+    let queue = terminal.queue;
+    let ring = queue.ring;
+    let station = notation::put_word(out, 0, core.station);
+    let table = notation::put_word(out, station, core.table);
+    let flags = notation::put_word(out, table, core.flags);
+    let start = notation::put_word(out, flags, ring.start);
+    recordings::put_state(out, start, core, ring)
+}
+
+fn same_terminal(first: Terminal, second: Terminal) -> bool {
+    let mut one = io::buffer();
+    let size = put_terminal(&mut one, first);
+    let mut two = io::buffer();
+    let count = put_terminal(&mut two, second);
+    let queue = first.queue;
+    let other = second.queue;
+    same_words(&queue.places, &other.places)
+        & check::same(
+            notation::part(&one, 0, size),
+            notation::part(&two, 0, count),
+        )
+}
+
+// ---- the cases
+
+// Whether an action over the row's part of a RAM gives the row's refusal, and keeps the terminal
+// where it refuses.
+fn call_holds(row: &[u8], ram: &mut [u16]) -> bool {
+    let size = notation::word_in(row, 3) as usize;
+    if ram.len() < size {
+        return false;
+    }
+    let terminal = given::terminal_of(row);
+    let made = perform(terminal, &mut ram[0..size], row);
+    let left = made.terminal;
+    let number = made.refusal as u16;
+    (number == notation::word_in(row, 4)) & ((number == 0) | same_terminal(terminal, left))
+}
+
+// Whether a row comes out as it should.
+fn row_holds(row: &[u8]) -> bool {
+    let mut cells: [u16; 16385] = [0x1234; 16385];
+    let ram: &mut [u16] = &mut cells;
+    let before: [u16; 16385] = [0x1234; 16385];
+    let right = call_holds(row, ram);
+    right & ((notation::word_in(row, 4) == 0) | same_words(ram, &before))
+}
+
+// Whether a case comes out as it should.
+pub(crate) fn holds(text: &[u8]) -> bool {
+    let line = notation::part(text, 0, notation::place_of(text, 0, b'\n'));
+    let mut bytes = io::buffer();
+    let size = notation::read_hex(line, &mut bytes, 0);
+    row_holds(notation::part(&bytes, 0, size))
+}
