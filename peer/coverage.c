@@ -15,21 +15,20 @@ struct word {
     unsigned fault;     /* the code by which it closed the open message, or 0 */
 };
 
+static uint16_t spare[CARD_CELLS]; /* the memory of the copies */
+
 /* With nothing open any own command opens, and no other word does. */
-static bool is_own_command(const struct terminal *before, uint16_t *memory,
-                           const struct word *word)
+static bool is_own_command(const struct terminal *before, const struct word *word)
 {
     struct terminal copy = *before;
 
     copy.is_open = false;
-    (void)terminal_word(&copy, memory, word->marks, word->value, word->time);
+    (void)terminal_word(&copy, spare, word->marks, word->value, word->time);
     return copy.is_open;
 }
 
-/* Not every message has a block to show the code of its fault: the open message
-   of the copy has block 0 of the spare memory, and no link to write over it. */
-static uint16_t spare[CARD_CELLS];
-
+/* Not every message has a block to show the code of its fault: the copy's has
+   block 0, and no link that could be written over the code. */
 static struct terminal with_spare_block(const struct terminal *before)
 {
     struct terminal copy = *before;
@@ -54,7 +53,7 @@ static unsigned fault_of_word(const struct terminal *before, const struct word *
     return spare_fault();
 }
 
-/* "Opening", which reads card memory only. */
+/* "Opening", which writes nothing: the table word is still the one it read. */
 static void count_opening(const struct terminal *after, const uint16_t *memory)
 {
     const struct message *message = &after->message;
@@ -269,7 +268,7 @@ static void count_rule(const struct terminal *before, const struct terminal *aft
 
 /* "Opening", first paragraph. */
 static void count_word(const struct terminal *before, const struct terminal *after,
-                       uint16_t *memory, const uint8_t *value)
+                       const uint16_t *memory, const uint8_t *value)
 {
     struct word word = {
         .marks = value[0],
@@ -279,7 +278,7 @@ static void count_word(const struct terminal *before, const struct terminal *aft
     const bool is_joined = (word.marks & MARK_JOINED) != 0;
     const bool is_same_line = (word.marks & MARK_LINE_B) == before->message.line;
 
-    word.is_own = is_own_command(before, memory, &word);
+    word.is_own = is_own_command(before, &word);
     word.fault = fault_of_word(before, &word);
 
     if (word.fault != FAULT_NONE)
@@ -454,7 +453,7 @@ static void count_flags(const struct terminal *before, unsigned flags)
 
 /* A field that was taken. */
 static void count_field(const struct terminal *before, const struct terminal *after,
-                        uint16_t *memory, const uint8_t *field)
+                        const uint16_t *memory, const uint8_t *field)
 {
     const unsigned tag = field[0];
     const unsigned length = two_bytes(field + 1);
@@ -528,8 +527,11 @@ static void count_refusal(enum refusal refusal, unsigned tag, size_t left)
 /* Up to the end of the field at the head, or all that is left where it is cut. */
 static size_t field_bytes(const uint8_t *field, size_t left)
 {
-    const size_t whole = left < HEAD_BYTES ? HEAD_BYTES : HEAD_BYTES + (size_t)two_bytes(field + 1);
+    size_t whole;
 
+    if (left < HEAD_BYTES)
+        return left;
+    whole = HEAD_BYTES + (size_t)two_bytes(field + 1);
     return whole < left ? whole : left;
 }
 
