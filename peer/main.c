@@ -71,7 +71,7 @@ static bool run(void)
     for (;;) {
         size_t used;
         const enum outcome outcome =
-            recording_run(&recording, window, held, is_last, &used);
+            RECORDING_RUN(&recording, window, held, is_last, &used);
 
         if (outcome == OUTCOME_ENDED || outcome == OUTCOME_REFUSED)
             return true;
@@ -217,6 +217,6 @@ int main(int argument_count, char **arguments)
     (void)signal(SIGPIPE, SIG_IGN); /* a reader that went away is a failed write */
 #endif
     is_written = run_and_print(wants_cells);
-    COVERAGE_WRITE();
+    COUNTERS_WRITE();
     return is_written ? EXIT_WRITTEN : EXIT_WRITE_FAILED;
 }

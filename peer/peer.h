@@ -19,7 +19,9 @@ enum {
     CELL_TIME_HIGH = 59,
     CELL_TIME_LOW = 60,
     CELL_ELAPSED = 61,
-    CELL_LINK = 63
+    CELL_LINK = 63,
+
+    ELAPSED_MAXIMUM = 65535
 };
 
 /* "Refusal numbers", those a recording can meet (its table block is a byte). */
@@ -52,6 +54,31 @@ enum {
     MARK_JOINED = 1 << 3,
     MARKS_ALL = 15
 };
+
+/* "Recordings": the tags of fields; a field's head is its tag and length. */
+enum tag {
+    TAG_SETUP = 1,
+    TAG_WORD = 2,
+    TAG_SILENCE = 3,
+    TAG_QUEUE_READ = 4,
+    TAG_HOST_WRITE = 5,
+    TAG_TABLE = 6,
+    TAG_FLAGS = 7
+};
+
+enum { HEAD_BYTES = 3 };
+
+/* "High byte first". */
+static inline uint16_t two_bytes(const uint8_t *bytes)
+{
+    return (uint16_t)((unsigned)bytes[0] << 8 | bytes[1]);
+}
+
+static inline uint32_t four_bytes(const uint8_t *bytes)
+{
+    return (uint32_t)bytes[0] << 24 | (uint32_t)bytes[1] << 16 | (uint32_t)bytes[2] << 8
+        | bytes[3];
+}
 
 enum stage {
     STAGE_DATA,     /* words, if any are wanted, then silence */
@@ -147,7 +174,7 @@ void text_hex(struct text *text, uint32_t number, unsigned digits);
 void text_decimal(struct text *text, uint64_t number);
 
 /* The longest field is a host write of 64 words. */
-enum { LONGEST_FIELD = 3 + 2 + 2 * 64 };
+enum { LONGEST_FIELD = HEAD_BYTES + 2 + 2 * 64 };
 
 enum outcome {
     OUTCOME_NEEDS_INPUT,    /* every whole field in the window was run */

@@ -1,37 +1,13 @@
 /* The reader of document 01, "Recordings" and "A tray run". */
-#include "coverage.h"
 #include "peer.h"
 
 #include <string.h>
-
-enum tag {
-    TAG_SETUP = 1,
-    TAG_WORD = 2,
-    TAG_SILENCE = 3,
-    TAG_QUEUE_READ = 4,
-    TAG_HOST_WRITE = 5,
-    TAG_TABLE = 6,
-    TAG_FLAGS = 7
-};
-
-enum { HEAD_BYTES = 3 };
 
 /* The length each tag has; a host write's has bounds instead. */
 static const uint8_t lengths[TAG_FLAGS + 1] = {
     [TAG_SETUP] = 3, [TAG_WORD] = 7, [TAG_SILENCE] = 5, [TAG_QUEUE_READ] = 0,
     [TAG_TABLE] = 1, [TAG_FLAGS] = 1,
 };
-
-static uint16_t two_bytes(const uint8_t *bytes)
-{
-    return (uint16_t)((unsigned)bytes[0] << 8 | bytes[1]);
-}
-
-static uint32_t four_bytes(const uint8_t *bytes)
-{
-    return (uint32_t)bytes[0] << 24 | (uint32_t)bytes[1] << 16 | (uint32_t)bytes[2] << 8
-        | bytes[3];
-}
 
 static bool is_length_of(unsigned tag, unsigned length)
 {
@@ -133,7 +109,6 @@ static enum refusal take_field(struct recording *recording, unsigned tag,
         print_queue_read(&recording->text, terminal_read_queue(terminal));
         return REFUSAL_NONE;
     case TAG_HOST_WRITE:
-        COUNT_HOST_WRITE(terminal, two_bytes(value), (length - 2u) / 2u);
         return terminal_host_write(recording->memory, two_bytes(value), value + 2,
                                    (length - 2) / 2);
     case TAG_TABLE:
@@ -164,36 +139,29 @@ enum outcome recording_run(struct recording *recording, const uint8_t *window,
             break;
         }
         if (tag < TAG_SETUP || tag > TAG_FLAGS) {
-            COUNT_IF(left == 1, refusal_6_last_byte);
             refusal = REFUSAL_TAG;
             break;
         }
         if (left < HEAD_BYTES) {
-            COUNT_IF(is_last, refusal_5_length);
             refusal = is_last ? REFUSAL_CUT : REFUSAL_NONE;
             break;
         }
         value_length = two_bytes(field + 1);
         if (!is_length_of(tag, value_length)) {
-            COUNT_INDEX(refusal_7_tag, tag);
             refusal = REFUSAL_LENGTH;
             break;
         }
         if (left - HEAD_BYTES < value_length) {
-            COUNT_IF(is_last, refusal_5_value);
             refusal = is_last ? REFUSAL_CUT : REFUSAL_NONE;
             break;
         }
         if ((tag == TAG_SETUP) == recording->has_terminal) {
-            COUNT_IF(tag == TAG_SETUP, refusal_9_again);
-            COUNT_IF(tag != TAG_SETUP, refusal_9_not_first);
             refusal = REFUSAL_SETUP;
             break;
         }
         refusal = take_field(recording, tag, field + HEAD_BYTES, value_length);
         if (refusal != REFUSAL_NONE)
             break;
-        COUNT_INDEX(field_tag, tag);
         fields++;
         field += HEAD_BYTES + value_length;
     }
@@ -202,7 +170,6 @@ enum outcome recording_run(struct recording *recording, const uint8_t *window,
     recording->offset += *used;
     recording->fields += fields;
     if (refusal != REFUSAL_NONE) {
-        COUNT_INDEX(refusal, refusal);
         recording->refusal = refusal;
         outcome = OUTCOME_REFUSED;
     }
