@@ -18,7 +18,7 @@ use Rattle.recording.specs.declared.words.Found.{Found}
 use Rattle.recording.specs.declared.words.Found.the-variants.{Value, Nothing}
 use Rattle.recording.specs.AsCoded.Found.{wordFound}
 use Rattle.tray.specs.declared.row.Row.{Row}
-use Rattle.tray.specs.declared.Ran.{Ran}
+use Rattle.tray.specs.declared.window.Ran.{Ran}
 use Rattle.tray.specs.AsCoded.Row.{stored, rowWith, rowStored, wantedBy, ranAfter}
 
 -- ---- the loop

@@ -28,8 +28,8 @@ use Rattle.recording.specs.AsCoded.Found.{wordFound}
 use Rattle.recording.proofs.Choices.{both-of}
 use Rattle.lines.specs.Written.{lineRoom, mostWords}
 use Rattle.tray.specs.declared.row.Row.{Row}
-use Rattle.tray.specs.declared.Ran.{Ran}
-use Rattle.tray.specs.declared.Stop.the-variants.{Going}
+use Rattle.tray.specs.declared.window.Ran.{Ran}
+use Rattle.tray.specs.declared.window.Stop.the-variants.{Going}
 use Rattle.tray.specs.AsCoded.Window.{takes, turns}
 use Rattle.tray.specs.AsCoded.Held.{passedOf}
 use Rattle.tray.specs.AsCoded.Row.{

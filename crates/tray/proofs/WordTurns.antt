@@ -27,8 +27,8 @@ use Rattle.recording.specs.Bytes.{timeAt}
 use Rattle.recording.specs.AsCoded.Found.{wordFound}
 use Rattle.recording.proofs.FoundLaws.{found-is-read, found-moves-on}
 use Rattle.lines.specs.Written.{lineRoom}
-use Rattle.tray.specs.declared.Ran.{Ran}
-use Rattle.tray.specs.declared.Stop.the-variants.{Going}
+use Rattle.tray.specs.declared.window.Ran.{Ran}
+use Rattle.tray.specs.declared.window.Stop.the-variants.{Going}
 use Rattle.tray.specs.Happening.{happeningOf, happened}
 use Rattle.tray.specs.Run.{taking, takingLine}
 use Rattle.tray.specs.AsCoded.Window.{Passed, takes, passing, turn, turns}

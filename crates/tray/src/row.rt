@@ -10,8 +10,8 @@ ghost use Rattle.tray.specs.AsCoded.Row.{
   ranAfter,
   RowTaken,
 };
-use crate::Ran;
-use crate::Run;
+use crate::run::Run;
+use crate::window::Ran;
 use card::memory;
 use card::place::Block;
 use card::place::Cell;

@@ -17,8 +17,8 @@ use Rattle.recording.specs.declared.words.Found.the-variants.{Value, Nothing}
 use Rattle.recording.specs.AsCoded.Found.{wordFound}
 use Rattle.lines.specs.Written.{lineRoom, mostWords}
 use Rattle.tray.specs.declared.row.Row.{Row}
-use Rattle.tray.specs.declared.Ran.{Ran}
-use Rattle.tray.specs.declared.Stop.the-variants.{Going}
+use Rattle.tray.specs.declared.window.Ran.{Ran}
+use Rattle.tray.specs.declared.window.Stop.the-variants.{Going}
 use Rattle.tray.specs.Run.{counted}
 use Rattle.tray.specs.AsCoded.Window.{turns}
 use Rattle.tray.specs.AsCoded.Held.{passedOf}
