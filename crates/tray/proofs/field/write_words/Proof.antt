@@ -1,5 +1,5 @@
--- `tray::field::write_words` meets its contract: the words that were copied are those written. Assumes
--- nothing.
+-- `tray::field::write_words` meets its contract: the words that were copied are those written.
+-- Assumes nothing.
 use borrow.Author.Needs.{needs}
 use Rattle.tray.proofs.HappenLaws.{words-written}
 use Rattle.tray.proofs.field.write_words.Statement.{statement}
