@@ -8,8 +8,8 @@ use lib.Dec.{eqb, ltb}
 use lib.ListN.{length, replicate}
 use borrow.Author.Tests.{ltb-false}
 use Rattle.card.specs.Memory.{cardWords}
-use Rattle.tray.specs.declared.Run.{Run}
-use Rattle.tray.specs.declared.Ran.{Ran}
+use Rattle.tray.specs.declared.run.Run.{Run}
+use Rattle.tray.specs.declared.window.Ran.{Ran}
 use Rattle.tray.specs.Run.{Tray, trayOver}
 use Rattle.tray.specs.AsCoded.Window.{Passed, windowRun, wholeRoom, mostTurns}
 use Rattle.tray.specs.AsCoded.Held.{trayOf, runAtStart, passedOf}

@@ -1,5 +1,5 @@
--- The rows of `specs/Asked.antt`, as the code makes them: a row that asks for nothing but its block,
--- with some columns set anew. Assumes nothing.
+-- The lines of the table in `specs/Asked.antt`, as the code makes them: one that asks for nothing
+-- but its block, with some columns set anew. Assumes nothing.
 use mathlib.Core.Path.{_≡_}
 use mathlib.Core.Bool.{Bool, true, false, cond}
 use Prim.Native.Nat.{ℕ, _+_}
@@ -30,14 +30,14 @@ use Rattle.message.specs.Asked.{
   serves,
   keepsNone,
   noAct,
-  row,
+  columns,
   askedBy,
   askedOf,
 }
 
 -- nothing but the block
 abbrev bare : Chain → Asked
-bare chained = row legal chained noWords serves keepsNone noAct
+bare chained = columns legal chained noWords serves keepsNone noAct
 
 pub block-taken-away : (asked : Asked) → asked ≡ bare (chain (theCell 31))
     → record {
@@ -71,80 +71,81 @@ with asked illegal takes sends receive yields fresh last switch =
     }
 
 module _ (asked : Asked) (kind : Kind) (command subaddress words code : ℕ) (cell : Cell) where
-  pub row-receive : kind ≡ Receive
+  pub kind-receive : kind ≡ Receive
       → subaddress ≡ subaddressOf command → words ≡ wordsOf command
       → asked ≡ bare (chain (theCell subaddress))
       → with asked (asked .illegal) words (asked .sends) true true (asked .fresh) (asked .last)
       (asked .switch) ≡ askedBy kind command
   unfolding askedBy
-  row-receive is is-subaddress is-words same =
+  kind-receive is is-subaddress is-words same =
       rw (is, ← is-subaddress, ← is-words, same)
 
-  pub row-transmit : kind ≡ Transmit
+  pub kind-transmit : kind ≡ Transmit
       → subaddress ≡ subaddressOf command → words ≡ wordsOf command
       → asked ≡ bare (chain (theCell (32 + subaddress)))
       → with asked (asked .illegal) (asked .takes) words (asked .receive) true (asked .fresh)
       (asked .last) (asked .switch) ≡ askedBy kind command
   unfolding askedBy
-  row-transmit is is-subaddress is-words same =
+  kind-transmit is is-subaddress is-words same =
       rw (is, ← is-subaddress, ← is-words, same)
 
-  pub row-status : kind ≡ ModeStatus → asked ≡ bare noBlock
+  pub kind-status : kind ≡ ModeStatus → asked ≡ bare noBlock
       → with asked (asked .illegal) (asked .takes) (asked .sends) (asked .receive)
       (asked .yields) false (asked .last) (asked .switch) ≡ askedBy kind command
   unfolding askedBy
-  row-status is same = rw (is, same)
+  kind-status is same = rw (is, same)
 
-  pub row-last : kind ≡ ModeLast → asked ≡ bare noBlock
+  pub kind-last : kind ≡ ModeLast → asked ≡ bare noBlock
       → with asked (asked .illegal) (asked .takes) (asked .sends) (asked .receive)
       (asked .yields) false true (asked .switch) ≡ askedBy kind command
   unfolding askedBy
-  row-last is same = rw (is, same)
+  kind-last is same = rw (is, same)
 
-  pub row-switch : kind ≡ ModeSwitch → code ≡ modeCodeOf command → asked ≡ bare noBlock
+  pub kind-switch : kind ≡ ModeSwitch → code ≡ modeCodeOf command → asked ≡ bare noBlock
       → with asked (asked .illegal) (asked .takes) (asked .sends) (asked .receive)
       (asked .yields) (asked .fresh) (asked .last) code ≡ askedBy kind command
   unfolding askedBy
-  row-switch is is-code same = rw (is, ← is-code, same)
+  kind-switch is is-code same = rw (is, ← is-code, same)
 
-  pub row-send : kind ≡ ModeSend → code ≡ modeCodeOf command
+  pub kind-send : kind ≡ ModeSend → code ≡ modeCodeOf command
       → cell ≡ theCell (cond (eqb code 16) 32 63)
       → asked ≡ bare (chain cell)
       → with asked (asked .illegal) (asked .takes) 1 (asked .receive) (asked .yields)
       (asked .fresh) (asked .last) (asked .switch) ≡ askedBy kind command
   unfolding askedBy
-  row-send is is-code is-cell same = rw (is, ← is-code, ← is-cell, same)
+  kind-send is is-code is-cell same = rw (is, ← is-code, ← is-cell, same)
 
-  pub row-take : kind ≡ ModeTake → asked ≡ bare (chain (theCell 31))
+  pub kind-take : kind ≡ ModeTake → asked ≡ bare (chain (theCell 31))
       → with asked (asked .illegal) 1 (asked .sends) (asked .receive) (asked .yields)
       (asked .fresh) (asked .last) (asked .switch) ≡ askedBy kind command
   unfolding askedBy
-  row-take is same = rw (is, same)
+  kind-take is same = rw (is, same)
 
-  pub row-reply : kind ≡ ModeReply → code ≡ modeCodeOf command → asked ≡ bare (chain (theCell 31))
+  pub kind-reply : kind ≡ ModeReply → code ≡ modeCodeOf command
+      → asked ≡ bare (chain (theCell 31))
       → with asked (asked .illegal) (asked .takes) (asked .sends) (asked .receive)
       (asked .yields) (asked .fresh) (asked .last) code ≡ askedBy kind command
   unfolding askedBy
-  row-reply is is-code same = rw (is, ← is-code, same)
+  kind-reply is is-code same = rw (is, ← is-code, same)
 
-  pub row-illegal : kind ≡ Illegal → asked ≡ bare noBlock
+  pub kind-illegal : kind ≡ Illegal → asked ≡ bare noBlock
       → with asked true (asked .takes) (asked .sends) (asked .receive) (asked .yields)
       (asked .fresh) (asked .last) (asked .switch) ≡ askedBy kind command
   unfolding askedBy
-  row-illegal is same = rw (is, same)
+  kind-illegal is same = rw (is, same)
 
   -- of the kind that the command has
   pub asked-is : kind ≡ kindOf command → asked ≡ askedBy kind command → asked ≡ askedOf command
   asked-is is same = rw (← is) same
 
-pub ruleset rows = (
-  row-receive,
-  row-transmit,
-  row-status,
-  row-last,
-  row-switch,
-  row-send,
-  row-take,
-  row-reply,
-  row-illegal,
+pub ruleset kinds = (
+  kind-receive,
+  kind-transmit,
+  kind-status,
+  kind-last,
+  kind-switch,
+  kind-send,
+  kind-take,
+  kind-reply,
+  kind-illegal,
 )

@@ -92,8 +92,9 @@ noAct = 0
 
 -- ---- the table
 
-abbrev pub row : Bool → Chain → Moves → Bool → Keeps → ℕ → Asked
-row legality chained moves yielding keeps switch =
+-- a line of it, column by column
+abbrev pub columns : Bool → Chain → Moves → Bool → Keeps → ℕ → Asked
+columns legality chained moves yielding keeps switch =
     record {
       illegal = legality;
       block = chained .block;
@@ -111,21 +112,21 @@ row legality chained moves yielding keeps switch =
 -- the others by 31. Internal codes 2, 4 to 7 and 18 and illegal commands have no block
 unfoldable pub askedBy : Kind → ℕ → Asked
 askedBy Receive command =
-    row legal (chain (theCell (subaddressOf command))) (takesData (wordsOf command)) yields
-    keepsNone noAct
+    columns legal (chain (theCell (subaddressOf command))) (takesData (wordsOf command))
+    yields keepsNone noAct
 askedBy Transmit command =
-    row legal (chain (theCell (32 + subaddressOf command))) (sends (wordsOf command)) yields
-    keepsNone noAct
-askedBy ModeStatus command = row legal noBlock noWords serves keepsStatus noAct
-askedBy ModeLast command = row legal noBlock noWords serves keepsBoth noAct
-askedBy ModeSwitch command = row legal noBlock noWords serves keepsNone (modeCodeOf command)
+    columns legal (chain (theCell (32 + subaddressOf command))) (sends (wordsOf command))
+    yields keepsNone noAct
+askedBy ModeStatus command = columns legal noBlock noWords serves keepsStatus noAct
+askedBy ModeLast command = columns legal noBlock noWords serves keepsBoth noAct
+askedBy ModeSwitch command = columns legal noBlock noWords serves keepsNone (modeCodeOf command)
 askedBy ModeSend command =
-    row legal (chain (theCell (cond (eqb (modeCodeOf command) 16) 32 63))) (sends 1) serves
-    keepsNone noAct
-askedBy ModeTake command = row legal (chain (theCell 31)) (takes 1) serves keepsNone noAct
+    columns legal (chain (theCell (cond (eqb (modeCodeOf command) 16) 32 63))) (sends 1)
+    serves keepsNone noAct
+askedBy ModeTake command = columns legal (chain (theCell 31)) (takes 1) serves keepsNone noAct
 askedBy ModeReply command =
-    row legal (chain (theCell 31)) noWords serves keepsNone (modeCodeOf command)
-askedBy Illegal command = row illegal noBlock noWords serves keepsNone noAct
+    columns legal (chain (theCell 31)) noWords serves keepsNone (modeCodeOf command)
+askedBy Illegal command = columns illegal noBlock noWords serves keepsNone noAct
 
 -- what a command asks
 abbrev pub askedOf : ℕ → Asked

@@ -12,7 +12,7 @@ ghost use Rattle.message.specs.Asked.{
   serves,
   keepsNone,
   noAct,
-  row,
+  columns,
   askedBy,
   askedOf,
   asks,
@@ -46,11 +46,11 @@ pub struct Asked {
     pub switch: u16,
 }
 
-// ---- the table: a row says what it has beside a block or none
+// ---- the table: a kind says what it has beside a block or none
 
 // A block, by the table word of this cell.
 fn with_block(cell: Cell) -> Asked
-    ensures { λ asked. ⌜ asked ≡ row legal (chain cell) noWords serves keepsNone noAct ⌝ }
+    ensures { λ asked. ⌜ asked ≡ columns legal (chain cell) noWords serves keepsNone noAct ⌝ }
 {
     Asked {
         illegal: false,
@@ -68,7 +68,7 @@ fn with_block(cell: Cell) -> Asked
 
 // No block. An opening reads one table word all the same: that of the mode codes.
 fn without_block() -> Asked
-    ensures { λ asked. ⌜ asked ≡ row legal noBlock noWords serves keepsNone noAct ⌝ }
+    ensures { λ asked. ⌜ asked ≡ columns legal noBlock noWords serves keepsNone noAct ⌝ }
 {
     let mut asked = with_block(Cell(31));
     asked.block = false;

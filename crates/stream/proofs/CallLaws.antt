@@ -10,10 +10,10 @@ use lib.Seq.{sets, slice, sets-eq, length-sets, length-slice, length-take-le, ta
 use borrow.Author.Tests.{le-leb}
 use Rattle.rules.proofs.Clash.{clash}
 use Rattle.lines.specs.Written.{Put, put}
-use Rattle.tray.specs.declared.Ran.{Ran}
-use Rattle.tray.specs.declared.Run.{Run}
-use Rattle.tray.specs.declared.Stop.{Stop}
-use Rattle.tray.specs.declared.Stop.the-variants.{Going, Hungry, Full, Over}
+use Rattle.tray.specs.declared.window.Ran.{Ran}
+use Rattle.tray.specs.declared.run.Run.{Run}
+use Rattle.tray.specs.declared.window.Stop.{Stop}
+use Rattle.tray.specs.declared.window.Stop.the-variants.{Going, Hungry, Full, Over}
 use Rattle.tray.specs.Run.{Tray}
 use Rattle.tray.specs.AsCoded.Window.{Passed, isGoing, windowRun, keptRest}
 use Rattle.tray.specs.AsCoded.Held.{trayOf, passedOf}

@@ -9,7 +9,7 @@ use lib.ListN.{length, take, replicate}
 use Rattle.rules.proofs.Clash.{clash}
 use Rattle.card.specs.Memory.{cardWords}
 use Rattle.queue.specs.Queue.{queuePlaces}
-use Rattle.tray.specs.declared.Run.{Run}
+use Rattle.tray.specs.declared.run.Run.{Run}
 use Rattle.tray.specs.Run.{Tray, trayAtStart}
 use Rattle.tray.specs.AsCoded.Held.{trayOf, runAtStart}
 use Rattle.stream.specs.declared.Pump.{Pump}

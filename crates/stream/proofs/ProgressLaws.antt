@@ -6,7 +6,7 @@ use mathlib.Core.List.{List, _++_}
 use Prim.Native.Nat.{ℕ, suc, _+_, _≤_}
 use native.Mathlib.Omega.{arith}
 use lib.ListN.{length, drop, length-append, length-drop}
-use Rattle.tray.specs.declared.Stop.the-variants.{Hungry}
+use Rattle.tray.specs.declared.window.Stop.the-variants.{Hungry}
 use Rattle.tray.specs.Run.{Tray}
 use Rattle.tray.specs.AsCoded.Pieces.{Streamed, begins, reads, ends, calls}
 use Rattle.tray.proofs.EndLaws.{call-within, last-call-waits-not}

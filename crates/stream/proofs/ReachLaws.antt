@@ -15,8 +15,8 @@ use Rattle.recording.specs.declared.reading.Reading.the-variants.{Taken, End, R
 use Rattle.recording.specs.Reading.{readAt}
 use Rattle.recording.specs.Bytes.{bytesLeft}
 use Rattle.lines.specs.Written.{lineRoom}
-use Rattle.tray.specs.declared.Stop.{Stop}
-use Rattle.tray.specs.declared.Stop.the-variants.{Going, Hungry, Full, Over}
+use Rattle.tray.specs.declared.window.Stop.{Stop}
+use Rattle.tray.specs.declared.window.Stop.the-variants.{Going, Hungry, Full, Over}
 use Rattle.tray.specs.Run.{Tray, wholeOf, wholeBy, wholeFrom}
 use Rattle.tray.specs.AsCoded.Window.{Passed, isGoing, mostTurns, stoppedAt, passing, windowRun}
 use Rattle.tray.proofs.EndLaws.{

@@ -18,7 +18,7 @@ use Rattle.recording.specs.Reading.{readAt}
 use Rattle.recording.specs.AsCoded.Pieces.{isSettled}
 use Rattle.recording.proofs.TakenLaws.{isReaderNumber, refused-names-place}
 use Rattle.recording.proofs.MoreBytes.{settled-by-133}
-use Rattle.tray.specs.declared.Stop.the-variants.{Going, Hungry, Full, Over}
+use Rattle.tray.specs.declared.window.Stop.the-variants.{Going, Hungry, Full, Over}
 use Rattle.tray.specs.Run.{Tray}
 use Rattle.tray.specs.AsCoded.Window.{
   Passed,

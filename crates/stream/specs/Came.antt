@@ -6,7 +6,7 @@ use mathlib.Core.Logic.{_≢_}
 use mathlib.Core.Bool.{Bool, true, false}
 use mathlib.Core.List.{List}
 use Prim.Native.Nat.{ℕ, _≤_}
-use Rattle.tray.specs.declared.Stop.the-variants.{Hungry, Over}
+use Rattle.tray.specs.declared.window.Stop.the-variants.{Hungry, Over}
 use Rattle.tray.specs.Run.{Tray}
 use Rattle.tray.specs.AsCoded.Window.{Passed}
 use Rattle.stream.specs.Progress.{Far, callAt, Progressed, turnsFor}

@@ -6,7 +6,7 @@ use mathlib.Core.Bool.{Bool, true, false}
 use mathlib.Core.List.{List, [], _++_}
 use Prim.Native.Nat.{ℕ, suc, _+_, _-_, _<_}
 use lib.ListN.{length, drop}
-use Rattle.tray.specs.declared.Stop.the-variants.{Hungry, Full}
+use Rattle.tray.specs.declared.window.Stop.the-variants.{Hungry, Full}
 use Rattle.tray.specs.Run.{Tray}
 use Rattle.tray.specs.AsCoded.Window.{Passed, windowRun}
 use Rattle.tray.specs.AsCoded.Pieces.{linesOf}

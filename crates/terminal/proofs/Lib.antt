@@ -3,11 +3,13 @@
 --     OpeningLaws   how the code puts an opening together
 --     ClosingLaws   how the code puts a closing together
 --     StepLaws      how the code does what was decided
+--     RowLaws       how the code stores a row of data words
 --     SilentLaws    a word brings no reply
 --     Determined    each public contract allows one outcome alone
 pub mod CoreLaws
 pub mod OpeningLaws
 pub mod ClosingLaws
 pub mod StepLaws
+pub mod RowLaws
 pub mod SilentLaws
 pub mod Determined

@@ -1,6 +1,5 @@
 -- A word: what rules 1 to 8 decide is done. Definitions only. Assumes nothing.
 use mathlib.Core.Bool.{cond}
-use Rattle.card.specs.Memory.{theCell, withCell}
 use Rattle.message.specs.declared.asked.Asked.{Asked}
 use Rattle.message.specs.declared.judge.WordAct.{WordAct}
 use Rattle.message.specs.declared.judge.WordAct.the-variants.{
@@ -19,20 +18,19 @@ use Rattle.message.specs.declared.state.OpenMessage.{OpenMessage}
 use Rattle.message.specs.declared.state.Message.{Message}
 use Rattle.message.specs.declared.state.Message.the-variants.{Idle, Open}
 use Rattle.bus.specs.declared.word.Word.{Word}
-use Rattle.terminal.specs.State.{Card, withMessage, withCore, withRam}
+use Rattle.terminal.specs.State.{Card}
 use Rattle.message.specs.Message.{further}
 use Rattle.message.specs.Asked.{asks}
 use Rattle.message.specs.Words.{ownCommand}
 use Rattle.message.specs.Words.{onWord}
 use Rattle.terminal.specs.Closing.{faulted}
 use Rattle.terminal.specs.Event.{Outcome, quietly, opens, goesOn}
+use Rattle.terminal.specs.Row.{wordStored}
 
 unfoldable pub wordDone : WordAct → Asked → OpenMessage → Word → Card → Outcome
 wordDone Ignore asked message word old = quietly old
 wordDone (Store taken) asked message word old =
-    quietly
-    (withCore (withMessage (Open (further Data (message .second) taken message)) (old .core))
-    (withRam (withCell (old .ram) (message .block) (theCell (message .taken)) (word .value)) old))
+    quietly (wordStored (word .value) taken message old)
 wordDone (Check taken) asked message word old =
     goesOn (further Data (message .second) taken message) old
 wordDone (TakeSecond value) asked message word old =

@@ -6,12 +6,12 @@ use Rattle.rules.proofs.Determined.{Determined, DeterminedAs, same}
 use Rattle.lines.specs.Written.{Put, put}
 use Rattle.tray.specs.AsCoded.Window.{Passed}
 use Rattle.tray.specs.AsCoded.Held.{passedOf}
-use Rattle.tray.proofs.Run.at_start.Kinds as at-start-kinds
-use Rattle.tray.proofs.Run.at_start.Reads as at-start-reads
-use Rattle.tray.proofs.run_window.Kinds as run-window-kinds
-use Rattle.tray.proofs.run_window.Reads as run-window-reads
-use Rattle.tray.proofs.keep_rest.Kinds as keep-rest-kinds
-use Rattle.tray.proofs.keep_rest.Reads as keep-rest-reads
+use Rattle.tray.proofs.run.Run.at_start.Kinds as at-start-kinds
+use Rattle.tray.proofs.run.Run.at_start.Reads as at-start-reads
+use Rattle.tray.proofs.window.run_window.Kinds as run-window-kinds
+use Rattle.tray.proofs.window.run_window.Reads as run-window-reads
+use Rattle.tray.proofs.rest.keep_rest.Kinds as keep-rest-kinds
+use Rattle.tray.proofs.rest.keep_rest.Reads as keep-rest-reads
 
 pub at-start : Determined 0 at-start-kinds.ps at-start-kinds.r at-start-reads.Post
 at-start κs arguments result result′ exit exit′ = same

@@ -17,8 +17,8 @@ use Rattle.recording.specs.Reading.{readAt}
 use Rattle.recording.proofs.TakenLaws.{taken-within}
 use Rattle.lines.specs.Written.{put, lineRoom, lineWritten}
 use Rattle.lines.proofs.WrittenLaws.{length-written}
-use Rattle.tray.specs.declared.Stop.{Stop}
-use Rattle.tray.specs.declared.Stop.the-variants.{Going, Hungry, Full, Over}
+use Rattle.tray.specs.declared.window.Stop.{Stop}
+use Rattle.tray.specs.declared.window.Stop.the-variants.{Going, Hungry, Full, Over}
 use Rattle.tray.specs.Run.{Tray, lastLine, taking, takingLine}
 use Rattle.tray.specs.AsCoded.Window.{
   Passed,

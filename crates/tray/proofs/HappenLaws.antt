@@ -42,7 +42,7 @@ use Rattle.recording.specs.declared.field.Field.{Field}
 use Rattle.recording.specs.declared.field.Field.the-variants as field
 use Rattle.recording.specs.Bytes.{wordsAt, withWords}
 use Rattle.recording.proofs.WordsLaws.{front-of-copy}
-use Rattle.tray.specs.declared.Happened.{Happened}
+use Rattle.tray.specs.declared.field.Happened.{Happened}
 use Rattle.tray.specs.Happening.{happeningOf, happened}
 use Rattle.tray.specs.AsCoded.Held.{WordsIn, WordsThere}
 

@@ -7,8 +7,9 @@ use Prim.Native.Nat.{ℕ, zero, suc, _-_, _≤_, _<_}
 use native.Mathlib.Omega.{arith}
 use lib.ListN.{length}
 use borrow.Author.Tests.{not-true, not-false}
-use Rattle.tray.specs.declared.Ran.{Ran}
-use Rattle.tray.specs.declared.Stop.the-variants.{Going}
+use Rattle.tray.specs.declared.window.Ran.{Ran}
+use Rattle.tray.specs.declared.window.Stop.{Stop}
+use Rattle.tray.specs.declared.window.Stop.the-variants.{Going, Hungry, Full, Over}
 use Rattle.tray.specs.AsCoded.Window.{Passed, isGoing, turn, turns}
 use Rattle.tray.specs.AsCoded.Held.{passedOf}
 use Rattle.tray.specs.AsCoded.Row.{RowTaken}

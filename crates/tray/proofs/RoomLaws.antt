@@ -31,8 +31,8 @@ use Rattle.recording.proofs.TakenLaws.{taken-tells, taken-within}
 use Rattle.lines.specs.Written.{stored, lineRoom, lineWritten}
 use Rattle.lines.proofs.Lengths.{queue-bytes}
 use Rattle.lines.proofs.WrittenLaws.{in-room, length-written, drop-written}
-use Rattle.tray.specs.declared.Stop.{Stop}
-use Rattle.tray.specs.declared.Stop.the-variants.{Going, Hungry, Full, Over}
+use Rattle.tray.specs.declared.window.Stop.{Stop}
+use Rattle.tray.specs.declared.window.Stop.the-variants.{Going, Hungry, Full, Over}
 use Rattle.tray.specs.Happening.{happeningOf, happened}
 use Rattle.tray.specs.Run.{Tray, Whole, whole, wholeFrom, lastLine, takingLine}
 use Rattle.tray.specs.AsCoded.Window.{

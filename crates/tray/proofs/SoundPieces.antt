@@ -11,7 +11,7 @@ use Rattle.recording.specs.declared.reading.Reading.{Reading}
 use Rattle.recording.specs.declared.reading.Reading.the-variants.{Taken, End, Refused}
 use Rattle.recording.specs.Reading.{readAt}
 use Rattle.lines.specs.Written.{lineRoom}
-use Rattle.tray.specs.declared.Stop.the-variants.{Full}
+use Rattle.tray.specs.declared.window.Stop.the-variants.{Full}
 use Rattle.tray.specs.Run.{Tray}
 use Rattle.tray.specs.AsCoded.Window.{
   Passed,

@@ -17,10 +17,10 @@ use Rattle.recording.proofs.TakenLaws.{taken-within}
 use Rattle.recording.proofs.InOrder.{taken-in-order}
 use Rattle.recording.proofs.TakenWords.{taken-words-there}
 use Rattle.lines.specs.Written.{Put, put, lineRoom, lineWritten}
-use Rattle.tray.specs.declared.Happened.{Happened}
-use Rattle.tray.specs.declared.Ran.{Ran}
-use Rattle.tray.specs.declared.Stop.{Stop}
-use Rattle.tray.specs.declared.Stop.the-variants.{Going, Hungry, Full, Over}
+use Rattle.tray.specs.declared.field.Happened.{Happened}
+use Rattle.tray.specs.declared.window.Ran.{Ran}
+use Rattle.tray.specs.declared.window.Stop.{Stop}
+use Rattle.tray.specs.declared.window.Stop.the-variants.{Going, Full, Over}
 use Rattle.tray.specs.Happening.{happeningOf, happened}
 use Rattle.tray.specs.Run.{answerLine, taking, takingLine}
 use Rattle.tray.specs.AsCoded.Window.{

@@ -31,8 +31,8 @@ use Rattle.recording.proofs.MoreBytes.{more-bytes-same-field, more-bytes-same-r
 use Rattle.recording.proofs.Shifted.{dropped-words, dropped-bytes}
 use Rattle.lines.specs.Written.{lineRoom, lineWritten}
 use Rattle.lines.proofs.WrittenLaws.{take-written, length-written, next-written}
-use Rattle.tray.specs.declared.Stop.{Stop}
-use Rattle.tray.specs.declared.Stop.the-variants.{Going, Hungry, Full, Over}
+use Rattle.tray.specs.declared.window.Stop.{Stop}
+use Rattle.tray.specs.declared.window.Stop.the-variants.{Going, Hungry, Full, Over}
 use Rattle.tray.specs.Happening.{event, happeningOf}
 use Rattle.tray.specs.Run.{
   Tray,

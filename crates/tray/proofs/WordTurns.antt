@@ -1,179 +1,167 @@
--- A data word that the open message wants is stored (`word-is-stored`), which is a turn
--- (`word-is-turn`), and a row of them is as many turns (`row-led`). Assumes nothing.
+-- A data word that is found is a turn (`word-is-turn`), and so many words that are found are as many
+-- turns (`words-are-turns`), whatever the terminal makes of them. Assumes nothing.
 use mathlib.Core.Path.{_≡_, refl, ap, _∙_}
 use mathlib.Core.Bool.{Bool, true, false}
-use mathlib.Core.List.{List}
-use Prim.Native.Nat.{ℕ, zero, suc, _+_, _-_, _≤_, _<_}
+use mathlib.Core.List.{List, _∷_, map}
+use Prim.Native.Nat.{ℕ, zero, suc, _+_, _-_, _*_, _≤_, _<_, _^_}
 use native.Mathlib.Omega.{arith}
 use lib.ListN.{length}
-use borrow.Author.Tests.{lt-leb, le-ltb}
-use Rattle.rules.proofs.Cases.{beq-same}
-use Rattle.card.specs.Memory.{theCell, withCell}
-use Rattle.queue.specs.Queue.{queue}
-use Rattle.message.specs.declared.state.Stage.the-variants.{Data}
-use Rattle.message.specs.declared.state.OpenMessage.{OpenMessage}
-use Rattle.message.specs.declared.state.Message.the-variants.{Open}
+use borrow.Author.Tests.{le-ltb}
 use Rattle.bus.specs.declared.word.Word.{Word}
-use Rattle.message.specs.Message.{further}
-use Rattle.message.specs.Asked.{asks, keepsBack}
-use Rattle.message.specs.Words.{ownCommand, inData, onWord}
-use Rattle.terminal.specs.State.{Card, card, withMessage}
-use Rattle.terminal.specs.Event.{quietly}
-use Rattle.terminal.specs.WordStep.{wordDone, wordStep}
-use Rattle.terminal.specs.Machine.{step}
 use Rattle.bus.specs.Word.{wordOf}
+use Rattle.terminal.specs.State.{Card}
+use Rattle.terminal.specs.Event.{word}
+use Rattle.terminal.specs.Row.{DataWord, DataWords, no-words, a-word}
+use Rattle.terminal.specs.Machine.{step, run}
+use Rattle.terminal.proofs.SilentLaws.{words-are-silent}
 use Rattle.recording.specs.declared.words.Found.{Found}
 use Rattle.recording.specs.declared.words.Found.the-variants.{Value, Nothing}
 use Rattle.recording.specs.Bytes.{timeAt}
 use Rattle.recording.specs.AsCoded.Found.{wordFound}
 use Rattle.recording.proofs.FoundLaws.{found-is-read, found-moves-on}
 use Rattle.lines.specs.Written.{lineRoom}
-use Rattle.tray.specs.declared.Ran.{Ran}
-use Rattle.tray.specs.declared.Stop.the-variants.{Going}
+use Rattle.tray.specs.declared.window.Stop.{Stop}
+use Rattle.tray.specs.declared.window.Stop.the-variants.{Going}
 use Rattle.tray.specs.Happening.{happeningOf, happened}
-use Rattle.tray.specs.Run.{taking, takingLine}
+use Rattle.tray.specs.Run.{counted, taking, takingLine}
 use Rattle.tray.specs.AsCoded.Window.{Passed, takes, passing, turn, turns}
-use Rattle.tray.specs.AsCoded.Held.{passedOf}
-use Rattle.tray.specs.AsCoded.Row.{Stored, wordStored, rowFrom, rowStored, marksOn, ranAfter}
+use Rattle.tray.specs.AsCoded.Row.{marksOn, foundThen, wordsFound}
 use Rattle.tray.proofs.LineLaws.{nothing-written}
 
--- ---- a word that is wanted
+-- ---- the words that are found
 
--- a data word of the message is stored
-module _ (old : Card) (message : OpenMessage) (heard : Word)
-    (is-open : old .core .message ≡ Open message)
-    (in-data : message .stage ≡ Data) (served : keepsBack (asks message) message ≡ false)
-    (wanted : message .taken < asks message .takes)
-    (of-data : heard .sync ≡ false) (sound : heard .sound ≡ true) (joined : heard .joined ≡ true)
-    (same-line : heard .line ≡ message .line) where
-  pub word-is-stored : wordStep heard old
-      ≡ quietly
-      (card
-      (withMessage (Open (further Data (message .second) (message .taken + 1) message)) (old .core))
-      (old .queue)
-      (withCell (old .ram) (message .block) (theCell (message .taken)) (heard .value)))
-  unfolding wordStep wordDone onWord ownCommand inData
-  word-is-stored =
-      rw (
-        is-open,
-        of-data,
-        sound,
-        joined,
-        same-line,
-        beq-same (message .line),
-        in-data,
-        lt-leb (asks message .takes) (message .taken) wanted,
-        served,
-      )
+marks-few : (line : Bool) → marksOn line ≤ 15
+marks-few true = omega arith
+marks-few false = omega arith
+
+-- a word that is found moves on by ten bytes
+pub found-next : (window : List ℕ) (line : Bool) (at value next : ℕ)
+    → wordFound window at (marksOn line) ≡ Value value next → next ≡ at + 10
+found-next window line at value next is =
+    found-moves-on window at (marksOn line) (marks-few line) is
+
+-- it is a data word on the line
+is-data-word : (line : Bool) (value time : ℕ) → DataWord line (wordOf (marksOn line) value time)
+is-data-word true value time =
+    record { of-data = refl; sound = refl; joined = refl; same-line = refl }
+is-data-word false value time =
+    record { of-data = refl; sound = refl; joined = refl; same-line = refl }
+
+module _ (window : List ℕ) (line : Bool) where
+  pub found-are-data : (fuel at : ℕ) → DataWords line (wordsFound fuel window line at)
+  unfolding wordsFound
+  found-are-data zero at = no-words
+  found-are-data (suc fuel) at =
+      go (found-are-data fuel) (wordFound window at (marksOn line))
+    where
+      go : ((next : ℕ) → DataWords line (wordsFound fuel window line next)) → (found : Found)
+          → DataWords line (foundThen found (wordsFound fuel window line) window line at)
+      go shorter Nothing = no-words
+      go shorter (Value value next) = a-word (is-data-word line value _) (shorter next)
+
+  pub found-at-most : (fuel at : ℕ) → length (wordsFound fuel window line at) ≤ fuel
+  unfolding wordsFound
+  found-at-most zero at = omega arith
+  found-at-most (suc fuel) at = go (found-at-most fuel) (wordFound window at (marksOn line))
+    where
+      go : ((next : ℕ) → length (wordsFound fuel window line next) ≤ fuel) → (found : Found)
+          → length (foundThen found (wordsFound fuel window line) window line at) ≤ suc fuel
+      go shorter Nothing = omega arith
+      go shorter (Value value next) = omega (arith, shorter next)
 
 -- ---- a word is a turn
-
--- the marks of a data word
-pub record DataMarks (line : Bool) : Type 0 where
-  pub few : marksOn line ≤ 15
-  pub on-line : wordOf (marksOn line) 0 0 .line ≡ line
-  pub of-data : wordOf (marksOn line) 0 0 .sync ≡ false
-  pub sound : wordOf (marksOn line) 0 0 .sound ≡ true
-  pub joined : wordOf (marksOn line) 0 0 .joined ≡ true
-
-pub data-marks : (line : Bool) → DataMarks line
-data-marks true =
-    record { few = omega arith; on-line = refl; of-data = refl; sound = refl; joined = refl }
-data-marks false =
-    record { few = omega arith; on-line = refl; of-data = refl; sound = refl; joined = refl }
 
 pub one-turn : (window : List ℕ) (last : Bool) (left : ℕ) (old new : Passed) → old .stop ≡ Going
     → turn window last old ≡ new → turns left window last new ≡ turns (suc left) window last old
 unfolding turns
 one-turn window last left old new going is = rw (is, going)
 
-module _ (ran : Ran) (message : OpenMessage) (places out window : List ℕ) (last : Bool)
-    (begun : ran .run .begun ≡ true) (going : ran .stop ≡ Going)
-    (enough : lineRoom ≤ length out - ran .put)
-    (in-data : message .stage ≡ Data) (served : keepsBack (asks message) message ≡ false) where
-  abbrev passedAt : Stored → Passed
-  passedAt now = passedOf (ranAfter ran message (now .row)) places (now .ram) out
-
-  abbrev marks : ℕ
-  marks = marksOn (message .line)
-
-  abbrev most-words : ℕ
-  most-words = asks message .takes
-
-  pub word-is-turn : (now : Stored) (value next : ℕ) → now .row .taken < most-words
-      → wordFound window (now .row .at) marks ≡ Value value next
-      → turn window last (passedAt now) ≡ passedAt (wordStored (message .block) value next now)
-  unfolding turn passing takes taking takingLine happened happeningOf step
-      ranAfter further withMessage
-  word-is-turn now value next more is =
-      let marked = data-marks (message .line) in
-      let at : ℕ = now .row .at in
-      let ten : next - at ≡ 10 =
-      omega (arith, found-moves-on window at marks (marked .few) is) in
-      let heard : Word = wordOf marks value (timeAt window (at + 6)) in
-      let stored-word =
-      word-is-stored (passedAt now .tray .card)
-      (further (message .stage) (message .second) (now .row .taken) message) heard
-      refl in-data served more
-      (marked .of-data) (marked .sound) (marked .joined) (marked .on-line) in
-      rw (
-        le-ltb (length out - ran .put) lineRoom enough,
-        begun,
-        found-is-read window at marks (marked .few) is,
-        stored-word,
-        ten,
-        ← nothing-written out (ran .put),
-        in-data,
-        going,
-      )
-
-  still-going : (now : Stored) → passedAt now .stop ≡ Going
-  unfolding ranAfter
-  still-going now = going
-
-  pub record Led (fuel : ℕ) (now end : Stored) : Type 0 where
-    pub words : ℕ
-    pub few : words ≤ fuel
-    pub longer : end .row .taken ≡ now .row .taken + words
-    pub leads : (left : ℕ) → turns left window last (passedAt end)
-        ≡ turns (words + left) window last (passedAt now)
-
-  none-led : (fuel : ℕ) (now : Stored) → Led fuel now now
-  none-led fuel now =
+module _ (window out : List ℕ) (last line begun : Bool) (put : ℕ) (stop : Stop)
+    (is-begun : begun ≡ true) (is-going : stop ≡ Going) (enough : lineRoom ≤ length out - put) where
+  -- a run among words
+  abbrev pub among : ℕ → Card → ℕ → ℕ → Passed
+  among at old fields offset =
       record {
-        words = 0;
-        few = omega arith;
-        longer = omega arith;
-        leads =
-            λ left. let same : 0 + left ≡ left = omega arith in rw same;
+        tray = record { begun = begun; card = old; fields = fields; offset = offset };
+        at = at;
+        put = put;
+        out = out;
+        stop = stop;
       }
 
-  pub row-led : (fuel : ℕ) (now : Stored) → fuel ≤ most-words - now .row .taken
-      → Led fuel now (rowStored fuel window marks (message .block) now)
-  unfolding rowStored
-  row-led zero now within = none-led zero now
-  row-led (suc fuel) now within =
-      go (row-led fuel) (wordFound window (now .row .at) marks) refl
+  pub word-is-turn : (at : ℕ) (old : Card) (fields offset value next : ℕ)
+      → wordFound window at (marksOn line) ≡ Value value next
+      → turn window last (among at old fields offset)
+      ≡ among next (step (word (wordOf (marksOn line) value (timeAt window (at + 6)))) old .card)
+      (counted (fields + 1)) (counted (offset + 10))
+  unfolding turn passing takes taking takingLine happened happeningOf step
+  word-is-turn at old fields offset value next is =
+      let ten : next - at ≡ 10 = omega (arith, found-next window line at value next is) in
+      rw (
+        le-ltb (length out - put) lineRoom enough,
+        is-begun,
+        found-is-read window at (marksOn line) (marks-few line) is,
+        words-are-silent (wordOf (marksOn line) value (timeAt window (at + 6))) old,
+        ten,
+        ← nothing-written out put,
+        is-going,
+      )
+
+  -- behind so many words
+  abbrev pub behindAll : List Word → ℕ → Card → ℕ → ℕ → Passed
+  behindAll words at old fields offset =
+      among (at + 10 * length words) (run (map word words) old)
+      (counted (fields + length words)) (counted (offset + 10 * length words))
+
+  no-turns : (left at : ℕ) (old : Card) (fields offset : ℕ) → fields < 2 ^ 64 → offset < 2 ^ 64
+      → turns left window last (among (at + 10 * 0) old (counted (fields + 0))
+      (counted (offset + 10 * 0)))
+      ≡ turns (0 + left) window last (among at old fields offset)
+  no-turns left at old fields offset few near =
+      let same-at : at + 10 * 0 ≡ at = omega arith in
+      let same-fields : counted (fields + 0) ≡ fields = omega (arith, few) in
+      let same-offset : counted (offset + 10 * 0) ≡ offset = omega (arith, near) in
+      let same-left : 0 + left ≡ left = omega arith in
+      rw (same-at, same-fields, same-offset, same-left)
+
+  pub words-are-turns : (fuel left at : ℕ) (old : Card) (fields offset : ℕ)
+      → fields < 2 ^ 64 → offset < 2 ^ 64
+      → turns left window last (behindAll (wordsFound fuel window line at) at old fields offset)
+      ≡ turns (length (wordsFound fuel window line at) + left) window last
+      (among at old fields offset)
+  unfolding wordsFound run
+  words-are-turns zero left at old fields offset few near =
+      no-turns left at old fields offset few near
+  words-are-turns (suc fuel) left at old fields offset few near =
+      go (words-are-turns fuel left) (wordFound window at (marksOn line)) refl
     where
-      go : ((now′ : Stored) → fuel ≤ most-words - now′ .row .taken
-          → Led fuel now′ (rowStored fuel window marks (message .block) now′))
-          → (found : Found) → wordFound window (now .row .at) marks ≡ found
-          → Led (suc fuel) now
-          (rowFrom found (rowStored fuel window marks (message .block)) (message .block) now)
-      go shorter Nothing is = none-led (suc fuel) now
+      go : ((at′ : ℕ) (old′ : Card) (fields′ offset′ : ℕ) → fields′ < 2 ^ 64 → offset′ < 2 ^ 64
+          → turns left window last
+          (behindAll (wordsFound fuel window line at′) at′ old′ fields′ offset′)
+          ≡ turns (length (wordsFound fuel window line at′) + left) window last
+          (among at′ old′ fields′ offset′))
+          → (found : Found) → wordFound window at (marksOn line) ≡ found
+          → turns left window last
+          (behindAll (foundThen found (wordsFound fuel window line) window line at)
+          at old fields offset)
+          ≡ turns (length (foundThen found (wordsFound fuel window line) window line at) + left)
+          window last (among at old fields offset)
+      go shorter Nothing is = no-turns left at old fields offset few near
       go shorter (Value value next) is =
-          let one : Stored = wordStored (message .block) value next now in
-          let rest = shorter one (omega (arith, within)) in
-          let is-turn = word-is-turn now value next (omega (arith, within)) is in
-          record {
-            words = suc (rest .words);
-            few = omega (arith, rest .few);
-            longer = omega (arith, rest .longer);
-            leads =
-                λ left.
-                let more : suc (rest .words + left) ≡ suc (rest .words) + left = omega arith in
-                rest .leads left
-                ∙ one-turn window last (rest .words + left) (passedAt now) (passedAt one)
-                (still-going now) is-turn
-                ∙ ap (λ (any : ℕ). turns any window last (passedAt now)) more;
-          }
+          let heard : Word = wordOf (marksOn line) value (timeAt window (at + 6)) in
+          let new : Card = step (word heard) old .card in
+          let rest : List Word = wordsFound fuel window line next in
+          let moved : next ≡ at + 10 = found-next window line at value next is in
+          let same-at : at + 10 * suc (length rest) ≡ next + 10 * length rest =
+          omega (arith, moved) in
+          let same-fields : counted (fields + suc (length rest))
+          ≡ counted (counted (fields + 1) + length rest) = omega arith in
+          let same-offset : counted (offset + 10 * suc (length rest))
+          ≡ counted (counted (offset + 10) + 10 * length rest) = omega arith in
+          let same-left : suc (length rest) + left ≡ suc (length rest + left) = omega arith in
+          rw (same-at, same-fields, same-offset, same-left)
+          (shorter next new (counted (fields + 1)) (counted (offset + 10)) (omega arith)
+          (omega arith)
+          ∙ one-turn window last (length rest + left) (among at old fields offset)
+          (among next new (counted (fields + 1)) (counted (offset + 10)))
+          is-going (word-is-turn at old fields offset value next is))

@@ -23,7 +23,7 @@ use Rattle.message.specs.declared.state.Message.{Message}
 use Rattle.message.specs.declared.state.Message.the-variants.{Idle, Open}
 use Rattle.terminal.specs.declared.state.Core.{Core}
 use Rattle.terminal.specs.declared.state.Held.{Held}
-use Rattle.tray.specs.declared.Run.{Run}
+use Rattle.tray.specs.declared.run.Run.{Run}
 use Rattle.lines.specs.Digits.{hexByte, hexWord, decimal}
 use Rattle.lines.specs.Lines.{blank, newline}
 use Rattle.tray_cells.specs.Text.{bytes}

@@ -8,8 +8,8 @@ use Prim.Native.Nat.{ℕ, suc, _+_, _≤_, _<_}
 use lib.Dec.{eqb}
 use lib.IntN.{ℤ, pos, negsuc}
 use lib.ListN.{length, take, drop}
-use Rattle.tray.specs.declared.Stop.{Stop}
-use Rattle.tray.specs.declared.Stop.the-variants.{Going, Hungry, Full, Over}
+use Rattle.tray.specs.declared.window.Stop.{Stop}
+use Rattle.tray.specs.declared.window.Stop.the-variants.{Going, Hungry, Full, Over}
 use Rattle.tray.specs.Run.{Tray}
 use Rattle.tray.specs.AsCoded.Window.{windowRun}
 use Rattle.stream.specs.declared.Heard.{Heard}

@@ -2,7 +2,6 @@
 -- the cut that the code makes. What it comes to is said by `WordStep` and `SilenceStep`. Definitions
 -- only. Assumes nothing.
 use mathlib.Core.Bool.{Bool, true, false, cond}
-use Rattle.card.specs.Memory.{theCell, withCell}
 use Rattle.message.specs.declared.asked.Asked.{Asked}
 use Rattle.message.specs.declared.judge.WordAct.{WordAct}
 use Rattle.message.specs.declared.judge.WordAct.the-variants as word-acts
@@ -22,8 +21,9 @@ use Rattle.terminal.specs.declared.machine.WordDeed.the-variants as word
 use Rattle.terminal.specs.declared.state.Core.{Core}
 use Rattle.terminal.specs.declared.state.Reply.{Reply}
 use Rattle.terminal.specs.declared.state.Reply.the-variants.{Silent}
-use Rattle.terminal.specs.State.{Card, withMessage, withCore, withRam}
+use Rattle.terminal.specs.State.{Card, withMessage, withCore}
 use Rattle.terminal.specs.Opening.{opening}
+use Rattle.terminal.specs.Row.{wordStored}
 use Rattle.terminal.specs.Closing.{faulted, replyOf}
 
 -- ---- a word
@@ -64,8 +64,7 @@ wordDeedDone word-deeds.Rest message word old = old
 wordDeedDone (word-deeds.GoOn stage second taken) message word old =
     withCore (withMessage (Open (further stage second taken message)) (old .core)) old
 wordDeedDone (word-deeds.Store taken) message word old =
-    withCore (withMessage (Open (further Data (message .second) taken message)) (old .core))
-    (withRam (withCell (old .ram) (message .block) (theCell (message .taken)) (word .value)) old)
+    wordStored (word .value) taken message old
 wordDeedDone (word-deeds.Fault code) message word old =
     faulted (asks message) code (word .time) message old
 

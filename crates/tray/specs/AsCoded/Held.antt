@@ -9,8 +9,8 @@ use Rattle.terminal.specs.State.{card, cardOf, coreAtSetup}
 use Rattle.recording.specs.declared.field.Field.{Field}
 use Rattle.recording.specs.declared.field.Field.the-variants.{HostWrite}
 use Rattle.recording.specs.Bytes.{bytesLeft}
-use Rattle.tray.specs.declared.Run.{Run}
-use Rattle.tray.specs.declared.Ran.{Ran}
+use Rattle.tray.specs.declared.run.Run.{Run}
+use Rattle.tray.specs.declared.window.Ran.{Ran}
 use Rattle.tray.specs.Run.{Tray}
 use Rattle.tray.specs.AsCoded.Window.{Passed}
 

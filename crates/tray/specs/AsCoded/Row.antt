@@ -2,85 +2,98 @@
 -- comes to is said by `Window`: each word is a turn. Definitions only. Assumes nothing.
 use mathlib.Core.Path.{_≡_}
 use mathlib.Core.Bool.{Bool, cond, _&&_}
-use mathlib.Core.List.{List}
-use Prim.Native.Nat.{ℕ, zero, suc, _+_, _-_, _<_, _≤_}
+use mathlib.Core.List.{List, [], _∷_}
+use Prim.Native.Nat.{ℕ, zero, suc, _+_, _-_, _*_, _<_, _≤_}
 use lib.Dec.{leb, ltb}
 use lib.ListN.{length}
-use Rattle.card.specs.declared.place.Block.{Block}
-use Rattle.card.specs.Memory.{theCell, withCell}
+use Rattle.bus.specs.declared.word.Word.{Word}
+use Rattle.bus.specs.Word.{wordOf}
 use Rattle.message.specs.declared.state.OpenMessage.{OpenMessage}
-use Rattle.message.specs.declared.state.Message.the-variants.{Open}
-use Rattle.message.specs.Message.{further}
-use Rattle.message.specs.Wants.{wants}
-use Rattle.terminal.specs.State.{withMessage}
+use Rattle.terminal.specs.declared.row.Row.{Row}
+use Rattle.terminal.specs.Row.{withTaken, withRow}
 use Rattle.recording.specs.declared.words.Found.{Found}
 use Rattle.recording.specs.declared.words.Found.the-variants.{Value, Nothing}
+use Rattle.recording.specs.Bytes.{timeAt}
 use Rattle.recording.specs.AsCoded.Found.{wordFound}
 use Rattle.lines.specs.Written.{lineRoom, mostWords}
-use Rattle.tray.specs.declared.row.Row.{Row}
-use Rattle.tray.specs.declared.Ran.{Ran}
-use Rattle.tray.specs.declared.Stop.the-variants.{Going}
+use Rattle.tray.specs.declared.row.Reach.{Reach}
+use Rattle.tray.specs.declared.window.Ran.{Ran}
+use Rattle.tray.specs.declared.window.Stop.the-variants.{Going}
 use Rattle.tray.specs.Run.{counted}
 use Rattle.tray.specs.AsCoded.Window.{turns}
 use Rattle.tray.specs.AsCoded.Held.{passedOf}
 
--- the numbers that a data word changes, and the RAM
-pub record Stored : Type 0 where
-  pub row : Row
-  pub ram : List ℕ
+-- ---- the words that are found
 
-abbrev pub stored : Row → List ℕ → Stored
-stored row ram = record { row = row; ram = ram }
-
--- a word more, of a field that ends at a place; it has ten bytes
-abbrev pub rowWith : ℕ → Row → Row
-rowWith next row =
-    record {
-      at = next;
-      taken = row .taken + 1;
-      fields = counted (row .fields + 1);
-      offset = counted (row .offset + 10);
-    }
-
-abbrev pub wordStored : Block → ℕ → ℕ → Stored → Stored
-wordStored block value next old =
-    stored (rowWith next (old .row)) (withCell (old .ram) block (theCell (old .row .taken)) value)
-
-abbrev pub rowFrom : Found → (Stored → Stored) → Block → Stored → Stored
-rowFrom (Value value next) rest block old = rest (wordStored block value next old)
-rowFrom Nothing rest block old = old
-
--- word after word, so many at the most
-unfoldable pub rowStored : ℕ → List ℕ → ℕ → Block → Stored → Stored
-rowStored zero window marks block old = old
-rowStored (suc more) window marks block old =
-    rowFrom (wordFound window (old .row .at) marks) (rowStored more window marks block) block old
-
--- ---- the words that are wanted
-
--- data sync, sound and joined, on the message's line
+-- data sync, sound and joined, on a line
 abbrev pub marksOn : Bool → ℕ
 marksOn line = cond line 13 12
 
--- a row is taken after a setup, with room for a line, where turns are left for any row
-abbrev pub mayTakeRow : Bool → ℕ → ℕ → Bool
-mayTakeRow begun room most = begun && leb lineRoom room && ltb mostWords most
+-- a word that is found, and what is found behind it
+abbrev pub foundThen : Found → (ℕ → List Word) → List ℕ → Bool → ℕ → List Word
+foundThen (Value value next) rest window line at =
+    wordOf (marksOn line) value (timeAt window (at + 6)) ∷ rest next
+foundThen Nothing rest window line at = []
 
-abbrev pub wantedBy : Bool → OpenMessage → ℕ
-wantedBy able message = cond able (wants message) 0
+-- the data words on a line that stand next in the window, so many at the most
+unfoldable pub wordsFound : ℕ → List ℕ → Bool → ℕ → List Word
+wordsFound zero window line at = []
+wordsFound (suc more) window line at =
+    foundThen (wordFound window at (marksOn line)) (wordsFound more window line) window line at
 
--- the run behind a row of words for its open message
-unfoldable pub ranAfter : Ran → OpenMessage → Row → Ran
-ranAfter old message end =
+-- ---- they are stored
+
+-- how far a row has come, and the memory
+pub record Stored : Type 0 where
+  pub reach : Reach
+  pub ram : List ℕ
+
+abbrev pub stored : Reach → List ℕ → Stored
+stored reach ram = record { reach = reach; ram = ram }
+
+-- some words further on: the field of each has ten bytes
+abbrev pub behind : List Word → Stored → Stored
+behind words old =
+    let row : Row = old .reach .row in
+    stored (record {
+      row =
+          record {
+            block = row .block;
+            taken = row .taken + length words;
+            wanted = row .wanted;
+          };
+      at = old .reach .at + 10 * length words;
+    })
+    (withRow (old .ram) (row .block) (row .taken) words)
+
+-- behind the words that are found, as many as are wanted
+abbrev pub behindRow : List ℕ → Bool → Stored → Stored
+behindRow window line old =
+    let row : Row = old .reach .row in
+    behind (wordsFound (row .wanted - row .taken) window line (old .reach .at)) old
+
+-- ---- the run behind a row
+
+-- a row is taken after a setup, with room for a line, where turns are left for any row, and a word
+-- is wanted
+abbrev pub mayTakeRow : Bool → ℕ → ℕ → Row → Bool
+mayTakeRow begun room most row =
+    begun && leb lineRoom room && ltb mostWords most && ltb (row .taken) (row .wanted)
+
+-- the run behind a row of so many words for its open message
+unfoldable pub ranAfter : Ran → OpenMessage → Reach → ℕ → Ran
+ranAfter old message end words =
     let held = old .run .held in
-    let next = further (message .stage) (message .second) (end .taken) message in
     record {
       run =
           record {
-            held = record { core = withMessage (Open next) (held .core); ring = held .ring };
+            held = record {
+              core = withTaken (end .row .taken) message (held .core);
+              ring = held .ring;
+            };
             begun = old .run .begun;
-            fields = end .fields;
-            offset = end .offset;
+            fields = counted (old .run .fields + words);
+            offset = counted (old .run .offset + 10 * words);
           };
       at = end .at;
       put = old .put;

@@ -12,8 +12,8 @@ use Rattle.recording.specs.declared.reading.Reading.{Reading}
 use Rattle.recording.specs.declared.reading.Reading.the-variants.{Taken, End, Refused}
 use Rattle.recording.specs.Reading.{readAt}
 use Rattle.lines.specs.Written.{Put, put, lineRoom, lineWritten}
-use Rattle.tray.specs.declared.Stop.{Stop}
-use Rattle.tray.specs.declared.Stop.the-variants.{Going, Hungry, Full, Over}
+use Rattle.tray.specs.declared.window.Stop.{Stop}
+use Rattle.tray.specs.declared.window.Stop.the-variants.{Going, Hungry, Full, Over}
 use Rattle.tray.specs.Run.{Tray, taking, takingLine, lastLine}
 
 -- the run, the place in the window, the place in the buffer, the buffer, and why it stopped

@@ -1,6 +1,6 @@
--- `message::asked::asked_by` meets its contract: a row for each kind. Assumes nothing.
+-- `message::asked::asked_by` meets its contract: a law for each kind. Assumes nothing.
 use borrow.Author.Needs.{needs}
-use Rattle.message.proofs.AskedLaws.{rows}
+use Rattle.message.proofs.AskedLaws.{kinds}
 use Rattle.message.proofs.asked.asked_by.Statement.{statement}
 use Rattle.message.proofs.asked.asked_by.Tie as tie
 
@@ -74,31 +74,31 @@ without-block-requires-4 : tie.Need-without-block-requires-4
 without-block-requires-4 c κs = search needs
 
 returns : tie.Need-returns
-returns c = search (needs, rows)
+returns c = search (needs, kinds)
 
 returns-2 : tie.Need-returns-2
-returns-2 c = search (needs, rows)
+returns-2 c = search (needs, kinds)
 
 returns-3 : tie.Need-returns-3
-returns-3 c = search (needs, rows)
+returns-3 c = search (needs, kinds)
 
 returns-4 : tie.Need-returns-4
-returns-4 c = search (needs, rows)
+returns-4 c = search (needs, kinds)
 
 returns-5 : tie.Need-returns-5
-returns-5 c = search (needs, rows)
+returns-5 c = search (needs, kinds)
 
 returns-6 : tie.Need-returns-6
-returns-6 c = search (needs, rows)
+returns-6 c = search (needs, kinds)
 
 returns-7 : tie.Need-returns-7
-returns-7 c = search (needs, rows)
+returns-7 c = search (needs, kinds)
 
 returns-8 : tie.Need-returns-8
-returns-8 c = search (needs, rows)
+returns-8 c = search (needs, kinds)
 
 returns-9 : tie.Need-returns-9
-returns-9 c = search (needs, rows)
+returns-9 c = search (needs, kinds)
 
 pub asked-by-spec : {M : Type 1} → statement M
 asked-by-spec =

@@ -4,14 +4,27 @@ use Rattle.tray.proofs.RowLaws.{row-after}
 use Rattle.tray.proofs.row.after_row.Statement.{statement}
 use Rattle.tray.proofs.row.after_row.Tie as tie
 
-further-requires : tie.Need-further-requires
-further-requires c κs = search needs
+after-row-requires : tie.Need-after-row-requires
+after-row-requires c κs = search needs
 
-with-message-requires : tie.Need-with-message-requires
-with-message-requires c κs = search needs
+wrapping-add-u64-requires : tie.Need-wrapping-add-u64-requires
+wrapping-add-u64-requires c κs = search needs
+
+mul-wrapping-add-u64 : tie.Need-mul-wrapping-add-u64
+mul-wrapping-add-u64 c = search needs
+
+wrapping-add-u64-requires-2 : tie.Need-wrapping-add-u64-requires-2
+wrapping-add-u64-requires-2 c κs = search needs
 
 returns : tie.Need-returns
 returns c = search (needs, row-after) depth 9
 
 pub after-row-spec : {M : Type 1} → statement M
-after-row-spec = tie.close (tie.spec further-requires with-message-requires returns)
+after-row-spec =
+    tie.close
+    (tie.spec
+    after-row-requires
+    wrapping-add-u64-requires
+    mul-wrapping-add-u64
+    wrapping-add-u64-requires-2
+    returns)

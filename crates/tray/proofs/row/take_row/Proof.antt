@@ -1,7 +1,7 @@
 -- `tray::row::take_row` meets its contract: a row of data words is as many turns. Assumes nothing.
 use mathlib.Core.Path.{refl}
 use borrow.Author.Needs.{needs}
-use Rattle.tray.proofs.RowTurns.{rows, words-fit, row-taken}
+use Rattle.tray.proofs.RowTurns.{rows, row-taken}
 use Rattle.tray.proofs.row.take_row.Statement.{statement}
 use Rattle.tray.proofs.row.take_row.Tie as tie
 
@@ -14,11 +14,11 @@ enum-told c = search needs
 returns : tie.Need-returns
 returns c = search needs
 
-wanted-by-requires : tie.Need-wanted-by-requires
-wanted-by-requires c κs = search needs
+of-requires : tie.Need-of-requires
+of-requires c κs = search needs
 
-marks-on-requires : tie.Need-marks-on-requires
-marks-on-requires c κs = search needs
+returns-2 : tie.Need-returns-2
+returns-2 c = search needs
 
 store-requires : tie.Need-store-requires
 store-requires c κs = search needs
@@ -26,37 +26,34 @@ store-requires c κs = search needs
 sub-words : tie.Need-sub-words
 sub-words c = search (needs, rows) depth 9
 
-cast-words : tie.Need-cast-words
-cast-words c = search needs
-
 after-row-requires : tie.Need-after-row-requires
 after-row-requires c κs = search needs
 
-sub-t25 : tie.Need-sub-t25
-sub-t25 c =
-    let at-store = c .before .before .before .before .before in
-    let at-wanted = at-store .before .before .before .before in
-    let at-state = at-wanted .before .before .before .before .before in
-    let at-start = at-state .before .before .before .before .before in
-    words-fit (at-start .args .room) _ _ _ _ _ _ _ _ _ _ _ _
-    (c .after-row .ensures)
-    (at-store .store .ensures)
-    (at-wanted .wanted-by .ensures)
+cast-t25 : tie.Need-cast-t25
+cast-t25 c = search needs
+
+sub-t26 : tie.Need-sub-t26
+sub-t26 c = search (needs, rows) depth 9
 
 same-length : tie.Need-same-length
 same-length c = search needs
 
-returns-2 : tie.Need-returns-2
-returns-2 c =
-    let at-store = c .before .before .before .before .before in
-    let at-wanted = at-store .before .before .before .before in
-    row-taken _ _ _ _ _ _ _ _ _ _ _ _
-    (c .after-row .ensures)
+returns-3 : tie.Need-returns-3
+returns-3 c =
+    let at-store = c .before .before .before .before .before .before in
+    let at-test = at-store .before .before in
+    let at-run = at-test .before .before in
+    row-taken _ _ _ _ _ _ _ _ _
+    (at-run .before .of .ensures)
+    (at-test .if1 .left)
+    (at-store .store .ensures)
+    _ _ _
     (search needs)
     refl
-    (at-store .store .ensures)
-    (at-store .before .marks-on .ensures)
-    (at-wanted .wanted-by .ensures)
+    (c .after-row .ensures)
+    refl
+    (at-run .struct-known .given .1 .1 .0 .fits)
+    (at-run .struct-known .given .1 .1 .1 .0 .fits)
 
 pub take-row-spec : {M : Type 1} → statement M
 take-row-spec =
@@ -65,12 +62,12 @@ take-row-spec =
     enum-known-state
     enum-told
     returns
-    wanted-by-requires
-    marks-on-requires
+    of-requires
+    returns-2
     store-requires
     sub-words
-    cast-words
     after-row-requires
-    sub-t25
+    cast-t25
+    sub-t26
     same-length
-    returns-2)
+    returns-3)

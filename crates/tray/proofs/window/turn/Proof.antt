@@ -1,8 +1,8 @@
--- `tray::turn` meets its contract: a law for each reading. Assumes nothing.
+-- `tray::window::turn` meets its contract: a law for each reading. Assumes nothing.
 use borrow.Author.Needs.{needs}
 use Rattle.tray.proofs.TurnLaws.{turning, reads-on}
-use Rattle.tray.proofs.turn.Statement.{statement}
-use Rattle.tray.proofs.turn.Tie as tie
+use Rattle.tray.proofs.window.turn.Statement.{statement}
+use Rattle.tray.proofs.window.turn.Tie as tie
 
 left-from-requires : tie.Need-left-from-requires
 left-from-requires c κs = search needs

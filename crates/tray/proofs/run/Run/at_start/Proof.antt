@@ -1,8 +1,8 @@
 -- `tray::Run::at_start` meets its contract, by computation. Assumes nothing.
 use borrow.Author.Needs.{needs}
 use Rattle.tray.specs.AsCoded.Held.{runAtStart}
-use Rattle.tray.proofs.Run.at_start.Statement.{statement}
-use Rattle.tray.proofs.Run.at_start.Tie as tie
+use Rattle.tray.proofs.run.Run.at_start.Statement.{statement}
+use Rattle.tray.proofs.run.Run.at_start.Tie as tie
 
 at-setup-requires : tie.Need-at-setup-requires
 at-setup-requires c κs = search needs

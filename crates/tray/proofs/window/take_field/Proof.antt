@@ -1,8 +1,8 @@
--- `tray::take_field` meets its contract. Assumes nothing.
+-- `tray::window::take_field` meets its contract. Assumes nothing.
 use borrow.Author.Needs.{needs}
 use Rattle.tray.proofs.TurnLaws.{field-taken}
-use Rattle.tray.proofs.take_field.Statement.{statement}
-use Rattle.tray.proofs.take_field.Tie as tie
+use Rattle.tray.proofs.window.take_field.Statement.{statement}
+use Rattle.tray.proofs.window.take_field.Tie as tie
 
 happen-requires : tie.Need-happen-requires
 happen-requires c κs = search needs

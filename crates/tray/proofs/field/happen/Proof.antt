@@ -1,8 +1,8 @@
--- `tray::happen` meets its contract: a law for each kind of field. Assumes nothing.
+-- `tray::field::happen` meets its contract: a law for each kind of field. Assumes nothing.
 use borrow.Author.Needs.{needs}
 use Rattle.tray.proofs.HappenLaws.{happenings, write-there}
-use Rattle.tray.proofs.happen.Statement.{statement}
-use Rattle.tray.proofs.happen.Tie as tie
+use Rattle.tray.proofs.field.happen.Statement.{statement}
+use Rattle.tray.proofs.field.happen.Tie as tie
 
 enum-known-field : tie.Need-enum-known-field
 enum-known-field c = search needs

@@ -1,10 +1,10 @@
--- `tray::run_window` meets its contract, by the laws of its loop. Assumes nothing.
+-- `tray::window::run_window` meets its contract, by the laws of its loop. Assumes nothing.
 use borrow.Author.Needs.{needs}
 use Rattle.tray.specs.AsCoded.Held.{passedOf}
 use Rattle.tray.specs.AsCoded.Window.{windowRun}
 use Rattle.tray.proofs.LoopLaws.{Leads, leads-on, leading}
-use Rattle.tray.proofs.run_window.Statement.{statement}
-use Rattle.tray.proofs.run_window.Tie as tie
+use Rattle.tray.proofs.window.run_window.Statement.{statement}
+use Rattle.tray.proofs.window.run_window.Tie as tie
 
 abbrev Inv-loop : tie.InvT-loop
 Inv-loop places₀ ram₀ window out₀ last ran₀ turns₀ places ram out ran turns =

@@ -1,9 +1,9 @@
--- `tray::write_words` meets its contract: the words that were copied are those written. Assumes
--- nothing.
+-- `tray::field::write_words` meets its contract: the words that were copied are those written.
+-- Assumes nothing.
 use borrow.Author.Needs.{needs}
 use Rattle.tray.proofs.HappenLaws.{words-written}
-use Rattle.tray.proofs.write_words.Statement.{statement}
-use Rattle.tray.proofs.write_words.Tie as tie
+use Rattle.tray.proofs.field.write_words.Statement.{statement}
+use Rattle.tray.proofs.field.write_words.Tie as tie
 
 slice-aggregate-copy-words : tie.Need-slice-aggregate-copy-words
 slice-aggregate-copy-words c = search needs

@@ -1,0 +1,200 @@
+// A call over a window of the recording: every whole field of it, and their lines in the buffer.
+ghost use mathlib.Core.Path.{_≡_};
+ghost use Rattle.lines.specs.Written.{put};
+ghost use Rattle.tray.specs.AsCoded.Window.{
+  isGoing,
+  stopped,
+  stoppedAt,
+  takes,
+  turn,
+  windowRun,
+};
+ghost use Rattle.tray.specs.AsCoded.Held.{trayOf, passedOf, WasRead};
+use crate::field;
+use crate::print;
+use crate::row;
+use crate::run::Run;
+use lines;
+use recording;
+use recording::Field;
+use recording::Reading;
+use std::num;
+
+// Why a call stopped: it has not, it needs more bytes, its buffer is full, or the run is over.
+pub enum Stop {
+    Going,
+    Hungry,
+    Full,
+    Over,
+}
+
+// What a call leaves: the run, the place in the window, and how many bytes of lines there are.
+pub struct Ran {
+    pub run: Run,
+    pub at: usize,
+    pub put: usize,
+    pub stop: Stop,
+}
+
+// What a last line leaves: how many bytes of lines there are, and why the call stops.
+struct Ended {
+    put: usize,
+    stop: Stop,
+}
+
+impl Stop {
+    fn is_going(self) -> bool
+        ensures { λ going. ⌜ going ≡ isGoing self ⌝ }
+    {
+        match self {
+            Stop::Going => true,
+            Stop::Hungry => false,
+            Stop::Full => false,
+            Stop::Over => false,
+        }
+    }
+}
+
+impl Ran {
+    fn with_stop(self, put: usize, stop: Stop) -> Ran
+        ensures { λ left. ⌜ left
+            ≡ record { run = self .run; at = self .at; put = put; stop = stop } ⌝ }
+    {
+        let run = self.run;
+        Ran {
+            run: run,
+            at: self.at,
+            put: put,
+            stop: stop,
+        }
+    }
+}
+
+// A field is taken: what it tells comes about, and its line is printed.
+fn take_field(
+    ran: Ran,
+    places: &mut [u16; 256],
+    ram: &mut [u16],
+    window: &[u8],
+    out: &mut [u8],
+    field: Field,
+    next: usize,
+) -> Ran
+    requires { ⌜ WasRead (now window) field (ran .at) next ⌝ }
+    ensures { λ left. ⌜ passedOf left
+        (now (places .exit)) (now (ram .exit)) (now (out .exit))
+        ≡ takes (now (window .entry)) field next
+        (passedOf ran (now (places .entry)) (now (ram .entry)) (now (out .entry))) ⌝ }
+{
+    let run = ran.run;
+    let old = run.held;
+    let left = field::happen(old, places, ram, window, field);
+    let answer = left.answer;
+    let held = left.held;
+    let put = print::put_answer(out, ran.put, ram, answer);
+    let size = (next - ran.at) as u64;
+    let fields = num::wrapping_add_u64(run.fields, 1);
+    let offset = num::wrapping_add_u64(run.offset, size);
+    Ran {
+        run: Run {
+            held: held,
+            begun: true,
+            fields: fields,
+            offset: offset,
+        },
+        at: next,
+        put: put,
+        stop: Stop::Going,
+    }
+}
+
+// No field is taken, by the number of a refusal or 0 for the end of the bytes: more bytes are
+// needed or, where these are the last, the last line is printed.
+fn stop_at(out: &mut [u8], at: usize, number: u8, last: bool, fields: u64, offset: u64) -> Ended
+    ensures { λ end. ⌜ stopped (put (end .put) (now (out .exit))) (end .stop)
+        ≡ stoppedAt number last fields offset (now (out .entry)) at ⌝ }
+{
+    let hungry = !last & ((number == 0) | (number == 5));
+    if hungry {
+        return Ended {
+            put: at,
+            stop: Stop::Hungry,
+        };
+    }
+    let next = print::put_last(out, at, number, fields, offset);
+    Ended {
+        put: next,
+        stop: Stop::Over,
+    }
+}
+
+// One field, if there is room for its line.
+fn turn(
+    ran: Ran,
+    places: &mut [u16; 256],
+    ram: &mut [u16],
+    window: &[u8],
+    out: &mut [u8],
+    last: bool,
+) -> Ran
+    ensures { λ left. ⌜ passedOf left
+        (now (places .exit)) (now (ram .exit)) (now (out .exit))
+        ≡ turn (now (window .entry)) last
+        (passedOf ran (now (places .entry)) (now (ram .entry)) (now (out .entry))) ⌝ }
+{
+    if lines::left_from(out.len(), ran.put) < lines::LINE_ROOM {
+        return ran.with_stop(ran.put, Stop::Full);
+    }
+    let run = ran.run;
+    let reading = recording::read_field(window, ran.at, run.begun);
+    match reading {
+        Reading::Taken { field, next } => { take_field(ran, places, ram, window, out, field, next) }
+        Reading::End => {
+            let end = stop_at(out, ran.put, 0, last, run.fields, run.offset);
+            let stop = end.stop;
+            ran.with_stop(end.put, stop)
+        }
+        Reading::Refused { number, place: _ } => {
+            let end = stop_at(out, ran.put, number, last, run.fields, run.offset);
+            let stop = end.stop;
+            ran.with_stop(end.put, stop)
+        }
+    }
+}
+
+// Every whole field of the window, from its first byte on, and their lines from the buffer's first
+// byte on. `last`: no more bytes will come.
+pub fn run_window(
+    run: Run,
+    places: &mut [u16; 256],
+    ram: &mut [u16],
+    window: &[u8],
+    out: &mut [u8],
+    last: bool,
+) -> Ran
+    ensures { λ left. ⌜ passedOf left
+        (now (places .exit)) (now (ram .exit)) (now (out .exit))
+        ≡ windowRun (trayOf run (now (places .entry)) (now (ram .entry)))
+        (now (window .entry)) last (now (out .entry)) ⌝ }
+{
+    let mut ran = Ran {
+        run: run,
+        at: 0,
+        put: 0,
+        stop: Stop::Going,
+    };
+    let mut turns = u64::MAX;
+    while turns > 0 {
+        let stop = ran.stop;
+        if !stop.is_going() {
+            break;
+        }
+        let room = lines::left_from(out.len(), ran.put);
+        let rowed = row::take_row(ran, ram, window, room, turns);
+        let next = rowed.ran;
+        turns = rowed.left;
+        ran = turn(next, places, ram, window, out, last);
+        turns -= 1;
+    }
+    ran
+}
