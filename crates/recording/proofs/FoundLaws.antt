@@ -21,7 +21,9 @@ use Rattle.recording.specs.declared.words.Found.{Found}
 use Rattle.recording.specs.declared.words.Found.the-variants.{Value, Nothing}
 use Rattle.recording.specs.declared.reading.Reading.the-variants.{Taken}
 use Rattle.recording.specs.Bytes.{bytesLeft, byteAt, wordAt, timeAt}
-use Rattle.recording.specs.Field.{lengthFits, fieldAt}
+use Rattle.recording.specs.Tag.{wordTag, tagOf, lengthFits}
+use Rattle.recording.specs.Field.{fieldAt}
+use Rattle.recording.specs.Seen.{setupSeen}
 use Rattle.recording.specs.Reading.{readAt}
 use Rattle.recording.specs.AsCoded.Found.{startsWord, wordFound}
 use Rattle.recording.proofs.Choices.{by-test, both-of}
@@ -54,12 +56,12 @@ pub ruleset finding = (found-short, found-other, found-word)
 
 module _ (bytes : List ℕ) (place marks : ℕ) (few : marks ≤ 15) where
   -- a word field that starts there whole is taken, once a setup has been read
-  starts-is-read : 10 ≤ bytesLeft bytes place → byteAt bytes place ≡ 2
+  starts-is-read : 10 ≤ bytesLeft bytes place → byteAt bytes place ≡ wordTag
       → byteAt bytes (place + 1) ≡ 0 → byteAt bytes (place + 2) ≡ 7
       → byteAt bytes (place + 3) ≡ marks
-      → readAt bytes place true
+      → readAt bytes place setupSeen
       ≡ Taken (Word marks (wordAt bytes (place + 4)) (timeAt bytes (place + 6))) (place + 10)
-  unfolding readAt lengthFits fieldAt
+  unfolding readAt tagOf lengthFits fieldAt
   starts-is-read whole tag high low marked =
       let second : place + 1 + 1 ≡ place + 2 = omega arith in
       let some : eqb (bytesLeft bytes place) 0 ≡ false =
@@ -77,7 +79,7 @@ module _ (bytes : List ℕ) (place marks : ℕ) (few : marks ≤ 15) where
   abbrev Read : Found → Type 0
   Read (Value value next) =
       (next ≡ place + 10)
-      × (readAt bytes place true ≡ Taken (Word marks value (timeAt bytes (place + 6))) next)
+      × (readAt bytes place setupSeen ≡ Taken (Word marks value (timeAt bytes (place + 6))) next)
   Read Nothing = place ≡ place
 
   found-tells : Read (wordFound bytes place marks)
@@ -87,7 +89,7 @@ module _ (bytes : List ℕ) (place marks : ℕ) (few : marks ≤ 15) where
       (λ is. go is) (λ _. refl)
     where
       tag : Bool
-      tag = eqb (byteAt bytes place) 2
+      tag = eqb (byteAt bytes place) wordTag
 
       high : Bool
       high = eqb (byteAt bytes (place + 1)) 0
@@ -107,7 +109,7 @@ module _ (bytes : List ℕ) (place marks : ℕ) (few : marks ≤ 15) where
           let fourth = both-of tag high (third .0) in (
             refl,
             starts-is-read (leb-true 10 (bytesLeft bytes place) (first .0))
-                (eqb-true (byteAt bytes place) 2 (fourth .0))
+                (eqb-true (byteAt bytes place) wordTag (fourth .0))
                 (eqb-true (byteAt bytes (place + 1)) 0 (fourth .1))
                 (eqb-true (byteAt bytes (place + 2)) 7 (third .1))
                 (eqb-true (byteAt bytes (place + 3)) marks (second .1)),
@@ -115,7 +117,7 @@ module _ (bytes : List ℕ) (place marks : ℕ) (few : marks ≤ 15) where
 
   module _ {value next : ℕ} (is : wordFound bytes place marks ≡ Value value next) where
     pub found-is-read :
-        readAt bytes place true ≡ Taken (Word marks value (timeAt bytes (place + 6))) next
+        readAt bytes place setupSeen ≡ Taken (Word marks value (timeAt bytes (place + 6))) next
     found-is-read = subst Read is found-tells .1
 
     pub found-moves-on : next ≡ place + 10

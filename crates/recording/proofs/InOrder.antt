@@ -5,24 +5,27 @@ use mathlib.Core.Bool.{Bool, true, false, cond}
 use mathlib.Core.List.{List}
 use Prim.Native.Nat.{ℕ, suc, _+_, _-_, _*_, _/_, _≤_}
 use native.Mathlib.Omega.{arith}
-use lib.Dec.{eqb, ltb}
-use borrow.Author.Tests.{eqb-true, ltb-false}
+use lib.Dec.{ltb}
+use borrow.Author.Tests.{ltb-false}
+use Rattle.recording.specs.declared.tag.Tag.{Tag}
+use Rattle.recording.specs.declared.tag.Tag.the-variants as tags
 use Rattle.recording.specs.declared.field.Field.{Field}
+use Rattle.recording.specs.declared.seen.Seen.{Seen}
 use Rattle.recording.specs.declared.field.Field.the-variants.{
   Setup,
   Word,
   Silence,
-  QueueRead,
+  ReadQueue,
   HostWrite,
-  Table,
-  Flags,
+  MoveTable,
+  SetFlags,
 }
 use Rattle.recording.specs.declared.reading.Reading.the-variants.{Taken}
 use Rattle.recording.specs.Bytes.{byteAt, wordAt}
-use Rattle.recording.specs.Field.{lengthFits, fieldAt, valueRefusal}
+use Rattle.recording.specs.Tag.{tagAt, lengthFits}
+use Rattle.recording.specs.Field.{fieldAt, valueRefusal}
 use Rattle.recording.specs.Reading.{readAt}
-use Rattle.recording.proofs.Choices.{by-test}
-use Rattle.recording.proofs.FieldLaws.{WriteSize, size-of-write}
+use Rattle.recording.proofs.TagLaws.{WriteSize, write-size}
 use Rattle.recording.proofs.TakenLaws.{TakenAt, taken-tells}
 
 -- ---- what it is to be in order
@@ -45,10 +48,10 @@ abbrev pub InOrder : ℕ → ℕ → Field → Type 0
 InOrder place next (Setup station table flags) = SetupInOrder station table flags
 InOrder place next (Word marks value time) = marks ≤ 15
 InOrder place next (Silence line time) = line ≤ 1
-InOrder place next QueueRead = Unit
+InOrder place next ReadQueue = Unit
 InOrder place next (HostWrite address first count) = WriteInOrder place next address first count
-InOrder place next (Table table) = table ≤ 255
-InOrder place next (Flags flags) = flags ≤ 63
+InOrder place next (MoveTable table) = table ≤ 255
+InOrder place next (SetFlags flags) = flags ≤ 63
 
 -- ---- a field that is not refused is in order
 
@@ -94,35 +97,28 @@ write-in-order place size address is in-order =
     }
 
 module _ (bytes : List ℕ) (place size : ℕ) where
-  field-in-order : (tag : ℕ) → lengthFits tag size ≡ true
+  field-in-order : (tag : Tag) → lengthFits tag size ≡ true
       → valueRefusal (fieldAt bytes tag (place + 3) size) ≡ 0
       → InOrder place (place + 3 + size) (fieldAt bytes tag (place + 3) size)
   unfolding fieldAt
-  field-in-order tag fits =
-      by-test Claim (eqb tag 1) (λ _. setup-in-order front (byte 1) (byte 2)) (λ _.
-      by-test Claim (eqb tag 2) (λ _. within 15 front 7 0) (λ _.
-      by-test Claim (eqb tag 3) (λ _. within 1 front 7 0) (λ _.
-      by-test Claim (eqb tag 4) (λ _ _. tt) (λ _.
-      by-test Claim (eqb tag 5)
-      (λ is. write-in-order place size (wordAt bytes (place + 3))
-      (size-of-write tag size fits (eqb-true tag 5 is))) (λ _.
-      by-test Claim (eqb tag 6) (λ _. within 255 front 2 0) (λ _. within 63 front 7 0))))))
-    where
-      Claim : Field → Type 0
-      Claim field = valueRefusal field ≡ 0 → InOrder place (place + 3 + size) field
+  field-in-order tags.Setup fits =
+      setup-in-order (byteAt bytes (place + 3))
+      (byteAt bytes (place + 3 + 1)) (byteAt bytes (place + 3 + 2))
+  field-in-order tags.Word fits = within 15 (byteAt bytes (place + 3)) 7 0
+  field-in-order tags.Silence fits = within 1 (byteAt bytes (place + 3)) 7 0
+  field-in-order tags.ReadQueue fits = λ _. tt
+  field-in-order tags.HostWrite fits =
+      write-in-order place size (wordAt bytes (place + 3)) (write-size size fits)
+  field-in-order tags.MoveTable fits = within 255 (byteAt bytes (place + 3)) 2 0
+  field-in-order tags.SetFlags fits = within 63 (byteAt bytes (place + 3)) 7 0
+  field-in-order tags.Unknown fits = λ _. tt
 
-      front : ℕ
-      front = byteAt bytes (place + 3)
-
-      byte : ℕ → ℕ
-      byte offset = byteAt bytes (place + 3 + offset)
-
-pub taken-in-order : (bytes : List ℕ) (place : ℕ) (begun : Bool) {field : Field} {next : ℕ}
-    → readAt bytes place begun ≡ Taken field next → InOrder place next field
-taken-in-order bytes place begun {field} {next} is =
-    let told : TakenAt bytes place begun field next = taken-tells bytes place begun is in
+pub taken-in-order : (bytes : List ℕ) (place : ℕ) (seen : Seen) {field : Field} {next : ℕ}
+    → readAt bytes place seen ≡ Taken field next → InOrder place next field
+taken-in-order bytes place seen {field} {next} is =
+    let told : TakenAt bytes place seen field next = taken-tells bytes place seen is in
     let size : ℕ = wordAt bytes (place + 1) in
-    let tag : ℕ = byteAt bytes place in
+    let tag : Tag = tagAt bytes place in
     rw (told .is-next, told .is-field)
     (field-in-order bytes place size tag (told .there .fits)
     (rw (told .is-field) at (told .in-order)))

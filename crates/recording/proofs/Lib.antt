@@ -1,7 +1,8 @@
 -- The mathematics of recordings. Read `Theorems`: what is proved.
 --     Theorems       the statements, by name
 --     Choices        a claim of a choice, by its test
---     FieldLaws      the table of tags on each way that the code takes
+--     TagLaws        the sizes that fit a tag
+--     FieldLaws      what a field holds on each way that the code takes
 --     ReadingLaws    the reader's order on each way that the code takes
 --     WordsLaws      the words of a host write, one by one
 --     TakenLaws      what a reading tells: where a field ends, whom a refusal names
@@ -15,6 +16,7 @@
 --     Examples       the definitions at work, by computation
 mod Theorems
 pub mod Choices
+pub mod TagLaws
 pub mod FieldLaws
 pub mod ReadingLaws
 pub mod WordsLaws

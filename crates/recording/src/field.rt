@@ -1,20 +1,20 @@
-// The fields of a recording: document 01's table of tags. A field is a tag of one byte, a length of
-// two and a value of that length.
+// The fields of a recording: what stands in the value of each tag. A field is a tag of one byte, a
+// length of two and a value of that length.
 ghost use mathlib.Core.Path.{_≡_};
 ghost use Prim.Native.Nat.{_+_, _≤_};
 ghost use lib.ListN.{length};
 ghost use Rattle.recording.specs.Field.{
-  isTag,
-  lengthFits,
   setupField,
   wordField,
   silenceField,
   writeField,
   fieldAt,
   valueRefusal,
+  isSetup,
   ValueThere,
 };
 use crate::bytes;
+use crate::tag::Tag;
 
 // What a field holds, in the order of the tags 01 to 07.
 pub enum Field {
@@ -33,52 +33,48 @@ pub enum Field {
         line: u8,
         time: u32,
     },
-    QueueRead,
+    ReadQueue,
     // `count` words stand in the input from `first` on, two bytes each, high byte first
     HostWrite {
         address: u16,
         first: usize,
         count: usize,
     },
-    Table {
+    MoveTable {
         table: u8,
     },
-    Flags {
+    SetFlags {
         flags: u8,
     },
 }
 
-// ---- the table of tags
-
-pub(crate) fn is_tag(tag: u8) -> bool
-    ensures { λ known. ⌜ known ≡ isTag tag ⌝ }
-{
-    (1 <= tag) & (tag <= 7)
-}
-
-// Whether a length is the tag's.
-pub(crate) fn length_fits(tag: u8, size: usize) -> bool
-    ensures { λ fits. ⌜ fits ≡ lengthFits tag size ⌝ }
-{
-    if tag == 1 {
-        return size == 3;
-    }
-    if tag == 2 {
-        return size == 7;
-    }
-    if tag == 3 {
-        return size == 5;
-    }
-    if tag == 4 {
-        return size == 0;
-    }
-    if tag == 5 {
-        return (4 <= size) & (size <= 130) & (size % 2 == 0);
-    }
-    size == 1
-}
-
 impl Field {
+    pub(crate) fn is_setup(self) -> bool
+        ensures { λ setup. ⌜ setup ≡ isSetup self ⌝ }
+    {
+        match self {
+            Field::Setup {
+                station: _,
+                table: _,
+                flags: _,
+            } => true,
+            Field::Word {
+                marks: _,
+                value: _,
+                time: _,
+            } => false,
+            Field::Silence { line: _, time: _ } => false,
+            Field::ReadQueue => false,
+            Field::HostWrite {
+                address: _,
+                first: _,
+                count: _,
+            } => false,
+            Field::MoveTable { table: _ } => false,
+            Field::SetFlags { flags: _ } => false,
+        }
+    }
+
     // Refusals 2, 3 and 8 by what the field holds, in that order, and 0 for none. One byte cannot
     // spell a table block above 255 today; the test for 3 stands where document 01's order has it.
     pub(crate) fn refusal(self) -> u8
@@ -117,7 +113,7 @@ impl Field {
                 }
                 0
             }
-            Field::QueueRead => 0,
+            Field::ReadQueue => 0,
             Field::HostWrite {
                 address,
                 first: _,
@@ -132,13 +128,13 @@ impl Field {
                 }
                 0
             }
-            Field::Table { table } => {
+            Field::MoveTable { table } => {
                 if table > 255 {
                     return 3;
                 }
                 0
             }
-            Field::Flags { flags } => {
+            Field::SetFlags { flags } => {
                 if flags > 63 {
                     return 8;
                 }
@@ -191,32 +187,24 @@ fn write_field(bytes: &[u8], value: usize, size: usize) -> Field
     }
 }
 
-// The field of a tag. Its value stands whole in the bytes, and has a length of the tag's.
-pub(crate) fn field_at(bytes: &[u8], tag: u8, value: usize, size: usize) -> Field
+// The field of a tag. Its value stands whole in the bytes, and has a length of the tag's, so that
+// the tag is known.
+pub(crate) fn field_at(bytes: &[u8], tag: Tag, value: usize, size: usize) -> Field
     requires { ⌜ ValueThere (now bytes) tag value size ⌝ }
     ensures { λ field. ⌜ field ≡ fieldAt (now (bytes .entry)) tag value size ⌝ }
 {
-    if tag == 1 {
-        return setup_field(bytes, value);
-    }
-    if tag == 2 {
-        return word_field(bytes, value);
-    }
-    if tag == 3 {
-        return silence_field(bytes, value);
-    }
-    if tag == 4 {
-        return Field::QueueRead;
-    }
-    if tag == 5 {
-        return write_field(bytes, value, size);
-    }
-    if tag == 6 {
-        return Field::Table {
+    match tag {
+        Tag::Setup => setup_field(bytes, value),
+        Tag::Word => word_field(bytes, value),
+        Tag::Silence => silence_field(bytes, value),
+        Tag::ReadQueue => Field::ReadQueue,
+        Tag::HostWrite => write_field(bytes, value, size),
+        Tag::MoveTable => Field::MoveTable {
             table: bytes[value],
-        };
-    }
-    Field::Flags {
-        flags: bytes[value],
+        },
+        Tag::SetFlags => Field::SetFlags {
+            flags: bytes[value],
+        },
+        Tag::Unknown => Field::ReadQueue,
     }
 }
