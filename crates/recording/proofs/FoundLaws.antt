@@ -17,13 +17,13 @@ use borrow.Author.Tests.{
   not-false,
 }
 use Rattle.recording.specs.declared.field.Field.the-variants.{Word}
+use Rattle.recording.specs.declared.seen.Seen.{Seen}
 use Rattle.recording.specs.declared.words.Found.{Found}
 use Rattle.recording.specs.declared.words.Found.the-variants.{Value, Nothing}
 use Rattle.recording.specs.declared.reading.Reading.the-variants.{Taken}
 use Rattle.recording.specs.Bytes.{bytesLeft, byteAt, wordAt, timeAt}
 use Rattle.recording.specs.Tag.{wordTag, tagOf, lengthFits}
 use Rattle.recording.specs.Field.{fieldAt}
-use Rattle.recording.specs.Seen.{setupSeen}
 use Rattle.recording.specs.Reading.{readAt}
 use Rattle.recording.specs.AsCoded.Found.{startsWord, wordFound}
 use Rattle.recording.proofs.Choices.{by-test, both-of}
@@ -54,12 +54,13 @@ pub ruleset finding = (found-short, found-other, found-word)
 
 -- ---- what is found is read
 
-module _ (bytes : List ℕ) (place marks : ℕ) (few : marks ≤ 15) where
+module _ (bytes : List ℕ) (place marks : ℕ) (few : marks ≤ 15) (seen : Seen)
+    (after-setup : seen .setup ≡ true) where
   -- a word field that starts there whole is taken, once a setup has been read
   starts-is-read : 10 ≤ bytesLeft bytes place → byteAt bytes place ≡ wordTag
       → byteAt bytes (place + 1) ≡ 0 → byteAt bytes (place + 2) ≡ 7
       → byteAt bytes (place + 3) ≡ marks
-      → readAt bytes place setupSeen
+      → readAt bytes place seen
       ≡ Taken (Word marks (wordAt bytes (place + 4)) (timeAt bytes (place + 6))) (place + 10)
   unfolding readAt tagOf lengthFits fieldAt
   starts-is-read whole tag high low marked =
@@ -74,12 +75,12 @@ module _ (bytes : List ℕ) (place marks : ℕ) (few : marks ≤ 15) where
       let value : place + 3 + 1 ≡ place + 4 = omega arith in
       let time : place + 3 + 3 ≡ place + 6 = omega arith in
       let next : place + 3 + 7 ≡ place + 10 = omega arith in
-      rw (some, tag, first, second, high, low, all, marked, in-order, value, time, next)
+      rw (some, tag, first, second, high, low, all, after-setup, marked, in-order, value, time, next)
 
   abbrev Read : Found → Type 0
   Read (Value value next) =
       (next ≡ place + 10)
-      × (readAt bytes place setupSeen ≡ Taken (Word marks value (timeAt bytes (place + 6))) next)
+      × (readAt bytes place seen ≡ Taken (Word marks value (timeAt bytes (place + 6))) next)
   Read Nothing = place ≡ place
 
   found-tells : Read (wordFound bytes place marks)
@@ -117,7 +118,7 @@ module _ (bytes : List ℕ) (place marks : ℕ) (few : marks ≤ 15) where
 
   module _ {value next : ℕ} (is : wordFound bytes place marks ≡ Value value next) where
     pub found-is-read :
-        readAt bytes place setupSeen ≡ Taken (Word marks value (timeAt bytes (place + 6))) next
+        readAt bytes place seen ≡ Taken (Word marks value (timeAt bytes (place + 6))) next
     found-is-read = subst Read is found-tells .1
 
     pub found-moves-on : next ≡ place + 10

@@ -12,6 +12,9 @@
 --     MoreBytes      bytes that come behind change no reading that is settled
 --     TakenWords     the words of a host write that was taken
 --     Shifted        a recording read as if it began further on
+--     ValueLaws      the values of a field, wherever it stands
+--     AcceptedLaws   the reader takes one row of fields alone
+--     CutLaws        accepted bytes cut at the end of a field
 --     Determined     each public contract allows one outcome alone
 --     Examples       the definitions at work, by computation
 mod Theorems
@@ -27,5 +30,8 @@ pub mod InOrder
 pub mod MoreBytes
 pub mod TakenWords
 pub mod Shifted
+pub mod ValueLaws
+pub mod AcceptedLaws
+pub mod CutLaws
 pub mod Determined
 mod Examples

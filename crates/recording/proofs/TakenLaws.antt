@@ -28,7 +28,7 @@ use Rattle.recording.specs.declared.reading.Reading.the-variants.{Taken,
 use Rattle.recording.specs.Bytes.{bytesLeft, wordAt}
 use Rattle.recording.specs.Tag.{tagAt, isUnknown, lengthFits}
 use Rattle.recording.specs.Field.{isSetup, fieldAt, valueRefusal, ValueThere}
-use Rattle.recording.specs.Seen.{setupSeen, isDue, seenAfter}
+use Rattle.recording.specs.Seen.{isDue, seenAfter}
 use Rattle.recording.specs.Reading.{readAt}
 use Rattle.recording.proofs.Choices.{by-test}
 use Rattle.recording.proofs.TagLaws.{size-at-most}
@@ -158,10 +158,10 @@ module _ (bytes : List ℕ) (place : ℕ) (seen : Seen) where
 
   -- after a field that is taken a setup has been seen: it is one, or comes behind one
   pub setup-seen-after : {field : Field} {next : ℕ} → readAt bytes place seen ≡ Taken field next
-      → seenAfter field seen ≡ setupSeen
+      → seenAfter field seen .setup ≡ true
   setup-seen-after is = rw (setup-by-turn is) (go (seen .setup))
     where
-      go : (before : Bool) → record { setup = not before || before } ≡ setupSeen
+      go : (before : Bool) → (not before || before) ≡ true
       go true = refl
       go false = refl
 
