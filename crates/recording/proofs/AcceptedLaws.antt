@@ -35,7 +35,7 @@ isTaken End = false
 isTaken (Refused number place) = false
 
 -- a setup that was seen stays so
-seen-stays : (seen : Seen) (fields : List Valued) → seen .setup ≡ true
+pub seen-stays : (seen : Seen) (fields : List Valued) → seen .setup ≡ true
     → seenAfterAll fields seen .setup ≡ true
 unfolding seenAfterAll
 seen-stays seen [] is = is

@@ -27,7 +27,7 @@ use Rattle.recording.specs.declared.reading.Reading.{Reading}
 use Rattle.recording.specs.Bytes.{bytesLeft, byteAt, wordAt, timeAt, wordsAt}
 use Rattle.recording.specs.Tag.{tagAt, isUnknown, lengthFits}
 use Rattle.recording.specs.Field.{fieldAt, valueRefusal}
-use Rattle.recording.specs.Seen.{isDue}
+use Rattle.recording.specs.Seen.{isDue, seenAfter}
 use Rattle.recording.specs.Reading.{readAt}
 use Rattle.recording.specs.AsCoded.Pieces.{shiftedField, shifted}
 use Rattle.recording.proofs.Choices.{choice-under}
@@ -42,6 +42,17 @@ refusal-of-shifted start ReadQueue = refl
 refusal-of-shifted start (HostWrite address first count) = refl
 refusal-of-shifted start (MoveTable table) = refl
 refusal-of-shifted start (SetFlags flags) = refl
+
+-- nor in what the reader has seen
+pub seen-of-shifted : (start : ℕ) (field : Field) (seen : Seen)
+    → seenAfter (shiftedField start field) seen ≡ seenAfter field seen
+seen-of-shifted start (Setup station table flags) seen = refl
+seen-of-shifted start (Word marks value time) seen = refl
+seen-of-shifted start (Silence line time) seen = refl
+seen-of-shifted start ReadQueue seen = refl
+seen-of-shifted start (HostWrite address first count) seen = refl
+seen-of-shifted start (MoveTable table) seen = refl
+seen-of-shifted start (SetFlags flags) seen = refl
 
 module _ (start : ℕ) (bytes : List ℕ) where
   -- ---- numbers

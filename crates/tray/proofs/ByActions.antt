@@ -35,16 +35,17 @@ use Rattle.recording.specs.declared.field.Field.the-variants.{
   Setup,
   Word,
   Silence,
-  QueueRead,
+  ReadQueue,
   HostWrite,
-  Table,
-  Flags,
+  MoveTable,
+  SetFlags,
 }
 use Rattle.recording.specs.declared.reading.Reading.{Reading}
 use Rattle.recording.specs.declared.reading.Reading.the-variants.{Taken, End, Refused}
 use Rattle.recording.specs.Bytes.{wordsAt}
 use Rattle.recording.specs.Field.{isSetup}
 use Rattle.recording.specs.Reading.{readAt}
+use Rattle.recording.specs.Value.{valuedAt}
 use Rattle.recording.proofs.WordsLaws.{length-words-at}
 use Rattle.recording.proofs.TakenLaws.{taken-within}
 use Rattle.recording.proofs.InOrder.{InOrder, WriteInOrder, taken-in-order}
@@ -64,7 +65,7 @@ use Rattle.tray.specs.Run.{
 use Rattle.tray.specs.Sound.{SoundTray}
 use Rattle.tray.specs.ByActions.{actionOf, trayWith, ByActions, acts, ends, refuses}
 use Rattle.tray.proofs.PrintedLaws.{whole-by-reading}
-use Rattle.tray.proofs.SoundLaws.{start-is-sound, begun-before, taking-is-sound}
+use Rattle.tray.proofs.SoundLaws.{start-is-sound, setup-before, taking-is-sound}
 use Rattle.tray.proofs.RefusedAlike.{refused-alike}
 
 -- ---- an action that refuses nothing
@@ -96,8 +97,8 @@ words-in-order bytes place next address first count in-order =
 module _ (bytes : List ℕ) (place next : ℕ) (old : Card) (long : length (old .ram) ≡ cardWords) where
   action-taken : (field : Field) → InOrder place next field
       → (isSetup field ≡ false → fitCard old ≡ true)
-      → actionOf bytes field old ≡ unrefused (happened (happeningOf bytes field) old)
-  unfolding actionOf happened happeningOf step queueReadStep tableMoveStep flagsWriteStep
+      → actionOf bytes field old ≡ unrefused (happened (happeningOf (valuedAt bytes field)) old)
+  unfolding actionOf happened happeningOf valuedAt step queueReadStep tableMoveStep flagsWriteStep
       setupAction wordAction silenceAction hostWriteAction readQueueAction moveTableAction
       setFlagsAction withoutMemory terminalAtSetup
   action-taken (Setup station table flags) in-order fit =
@@ -110,21 +111,22 @@ module _ (bytes : List ℕ) (place next : ℕ) (old : Card) (long : length (old 
       memory-taken _ old (leb marks 15) long (fit refl) (le-leb marks 15 in-order)
   action-taken (Silence line time) in-order fit =
       memory-taken _ old (leb line 1) long (fit refl) (le-leb line 1 in-order)
-  action-taken QueueRead in-order fit = rw (fit refl)
+  action-taken ReadQueue in-order fit = rw (fit refl)
   action-taken (HostWrite address first count) in-order fit =
       memory-taken _ old _ long (fit refl)
       (words-in-order bytes place next address first count in-order)
-  action-taken (Table table) in-order fit = rw (fit refl, le-leb table 255 in-order)
-  action-taken (Flags flags) in-order fit = rw (fit refl, le-leb flags 63 in-order)
+  action-taken (MoveTable table) in-order fit = rw (fit refl, le-leb table 255 in-order)
+  action-taken (SetFlags flags) in-order fit = rw (fit refl, le-leb flags 63 in-order)
 
 -- the action of a field that is taken from a sound tray does what the run does
 pub field-by-action : (bytes : List ℕ) (place : ℕ) (old : Tray) {field : Field} {next : ℕ}
-    → readAt bytes place (old .begun) ≡ Taken field next → SoundTray old
-    → actionOf bytes field (old .card) ≡ unrefused (happened (happeningOf bytes field) (old .card))
+    → readAt bytes place (old .seen) ≡ Taken field next → SoundTray old
+    → actionOf bytes field (old .card)
+    ≡ unrefused (happened (happeningOf (valuedAt bytes field)) (old .card))
 field-by-action bytes place old {field} {next} is sound =
     action-taken bytes place next (old .card) (sound .whole-memory) field
-    (taken-in-order bytes place (old .begun) is)
-    (λ other. sound .fit (begun-before bytes place old is other))
+    (taken-in-order bytes place (old .seen) is)
+    (λ other. sound .fit (setup-before bytes place old is other))
 
 -- ---- a run is what the actions make
 
@@ -133,11 +135,11 @@ by-reading : (rest : Tray → List ℕ → Whole) (old : Tray) (bytes : List ℕ
     → SoundTray old
     → ((new : Tray) (behind : List ℕ) → length behind < length bytes → SoundTray new
     → ByActions new behind (rest new behind))
-    → readAt bytes 0 (old .begun) ≡ reading
+    → readAt bytes 0 (old .seen) ≡ reading
     → ByActions old bytes (wholeOf reading rest old bytes)
 unfolding wholeOf taking takingLine
 by-reading rest old bytes (Taken field next) sound then is =
-    let within = taken-within bytes 0 (old .begun) is in
+    let within = taken-within bytes 0 (old .seen) is in
     let fewer : length (drop next bytes) < length bytes =
     omega (arith, length-drop next bytes, within .moves-on, within .ends-inside) in
     acts sound is (field-by-action bytes 0 old is sound)
@@ -152,7 +154,7 @@ by-turns : (most : ℕ) (old : Tray) (bytes : List ℕ) → length bytes < most
 unfolding wholeBy
 by-turns zero old bytes few sound = absurd (omega (arith, few))
 by-turns (suc most) old bytes few sound =
-    by-reading (wholeBy most) old bytes (readAt bytes 0 (old .begun)) sound
+    by-reading (wholeBy most) old bytes (readAt bytes 0 (old .seen)) sound
     (λ new behind fewer. by-turns most new behind (omega (arith, few, fewer))) refl
 
 pub run-by-actions : (ram bytes : List ℕ) → length ram ≡ cardWords
@@ -168,12 +170,12 @@ pub actions-make-the-run : {old : Tray} {bytes : List ℕ} {made : Whole}
 unfolding wholeOf taking takingLine
 actions-make-the-run {old} {bytes}
     (acts {field = field} {next = next} {answer = answer} {new = new} sound is taken more) =
-    let same : shown new answer ≡ happened (happeningOf bytes field) (old .card) =
+    let same : shown new answer ≡ happened (happeningOf (valuedAt bytes field)) (old .card) =
     ap (λ (left : After). shown (left .card) (left .answer))
     (sym taken ∙ field-by-action bytes 0 old is sound) in
     ap (withLine (shownLine (shown new answer))) (actions-make-the-run more)
     ∙ ap (λ (left : Shown). withLine (shownLine left)
-    (wholeFrom (trayWith (left .card) next old) (drop next bytes))) same
+    (wholeFrom (trayWith field (left .card) next old) (drop next bytes))) same
     ∙ sym (whole-by-reading old bytes (Taken field next) is)
 actions-make-the-run {old} {bytes} (ends sound is) = sym (whole-by-reading old bytes End is)
 actions-make-the-run {old} {bytes} (refuses {number = number} {place = place} sound is alike) =

@@ -1,14 +1,14 @@
 -- A field that the reader refuses for what it holds, by 2, 3 or 8, its action refuses by the same
 -- number: `refused-alike`. So the reader is no stricter than the library. Assumes nothing.
 use mathlib.Core.Path.{_≡_, refl, sym, subst}
-use mathlib.Core.Bool.{Bool, true, false, cond, not, Bool·beq, true≢false}
+use mathlib.Core.Bool.{Bool, true, false, cond, not, true≢false}
 use mathlib.Core.List.{List}
 use Prim.Native.Nat.{ℕ, _+_, _-_, _/_, _≤_}
 use native.Mathlib.Decide.{decLt}
 use native.Mathlib.Omega.{arith}
 use lib.Dec.{eqb, leb, ltb}
 use lib.ListN.{length}
-use borrow.Author.Tests.{eqb-true, eq-eqb, le-leb, lt-leb, lt-ltb, le-ltb, not-false}
+use borrow.Author.Tests.{eq-eqb, le-leb, lt-leb, lt-ltb, le-ltb, not-false}
 use Rattle.card.specs.Memory.{cardWords}
 use Rattle.terminal.specs.State.{Card}
 use Rattle.actions.specs.declared.Done.{Done}
@@ -26,23 +26,27 @@ use Rattle.actions.specs.Actions.{
   setFlagsAction,
   setupAction,
 }
+use Rattle.recording.specs.declared.tag.Tag.{Tag}
+use Rattle.recording.specs.declared.tag.Tag.the-variants as tags
 use Rattle.recording.specs.declared.field.Field.{Field}
 use Rattle.recording.specs.declared.field.Field.the-variants.{
   Setup,
   Word,
   Silence,
-  QueueRead,
+  ReadQueue,
   HostWrite,
-  Table,
-  Flags,
+  MoveTable,
+  SetFlags,
 }
 use Rattle.recording.specs.declared.reading.Reading.{Reading}
 use Rattle.recording.specs.declared.reading.Reading.the-variants.{Taken, End, Refused}
 use Rattle.recording.specs.Bytes.{bytesLeft, byteAt, wordAt, timeAt}
-use Rattle.recording.specs.Field.{isTag, lengthFits, fieldAt, valueRefusal}
+use Rattle.recording.specs.Tag.{tagAt, isUnknown, lengthFits}
+use Rattle.recording.specs.Field.{fieldAt, valueRefusal}
+use Rattle.recording.specs.Seen.{isDue}
 use Rattle.recording.specs.Reading.{readAt}
 use Rattle.recording.proofs.Choices.{by-test, choice-under}
-use Rattle.recording.proofs.FieldLaws.{size-of-write}
+use Rattle.recording.proofs.TagLaws.{write-size}
 use Rattle.recording.proofs.WordsLaws.{length-words-at}
 use Rattle.tray.specs.Run.{Tray}
 use Rattle.tray.specs.Sound.{SoundTray}
@@ -89,7 +93,7 @@ module _ (bytes : List ℕ) (old : Card) where
     unfolding actionOf silenceAction
     silence-number line time = rw (← above 1 line) (memory-number _ old (leb line 1) long fit)
 
-    queue-read-number : SameNumber QueueRead
+    queue-read-number : SameNumber ReadQueue
     unfolding actionOf readQueueAction
     queue-read-number = rw fit
 
@@ -105,13 +109,13 @@ module _ (bytes : List ℕ) (old : Card) where
         )
         (memory-number _ old (leb (address + count) cardWords) long fit)
 
-    table-number : (table : ℕ) → SameNumber (Table table)
+    table-number : (table : ℕ) → SameNumber (MoveTable table)
     unfolding actionOf moveTableAction withoutMemory
     table-number table =
         rw (fit, above 255 table)
         (sym (choice-under (λ (left : After). left .refusal) (ltb 255 table) refl refl))
 
-    flags-number : (flags : ℕ) → SameNumber (Flags flags)
+    flags-number : (flags : ℕ) → SameNumber (SetFlags flags)
     unfolding actionOf setFlagsAction withoutMemory
     flags-number flags =
         rw (fit, above 63 flags)
@@ -120,55 +124,36 @@ module _ (bytes : List ℕ) (old : Card) where
 -- ---- the reader's number
 
 module _ (bytes : List ℕ) (old : Tray) (sound : SoundTray old) where
-  abbrev tag : ℕ
-  tag = byteAt bytes 0
-
   abbrev size : ℕ
   size = wordAt bytes 1
 
-  -- a field that is no setup has one before it
-  fit-in-turn : Bool·beq (old .begun) (eqb tag 1) ≡ false → eqb tag 1 ≡ false
-      → fitCard (old .card) ≡ true
-  fit-in-turn in-turn other = sound .fit (go (old .begun) (eqb tag 1) in-turn other)
-    where
-      go : (begun first : Bool) → Bool·beq begun first ≡ false → first ≡ false → begun ≡ true
-      go true first apart other = refl
-      go false true apart other = absurd (true≢false other)
-      go false false apart other = absurd (true≢false apart)
+  abbrev given : Card
+  given = old .card
 
-  -- the first field, by its tag
-  first-number : lengthFits tag size ≡ true → Bool·beq (old .begun) (eqb tag 1) ≡ false
-      → SameNumber bytes (old .card) (firstField bytes)
-  unfolding fieldAt
-  first-number fits in-turn =
-      by-test Claim (eqb tag 1)
-      (λ _. setup-number bytes given (byteAt bytes 3) (byteAt bytes 4) (byteAt bytes 5))
-      (λ other.
-      let fit : fitCard given ≡ true = fit-in-turn in-turn other in
-      by-test Claim (eqb tag 2)
-      (λ _. word-number bytes given long fit (byteAt bytes 3) (wordAt bytes 4) (timeAt bytes 6))
-      (λ _.
-      by-test Claim (eqb tag 3)
-      (λ _. silence-number bytes given long fit (byteAt bytes 3) (timeAt bytes 4)) (λ _.
-      by-test Claim (eqb tag 4) (λ _. queue-read-number bytes given long fit) (λ _.
-      by-test Claim (eqb tag 5)
-      (λ is.
-      let sized = size-of-write tag size fits (eqb-true tag 5 is) in
-      write-number bytes given long fit (wordAt bytes 3) 5 ((size - 2) / 2)
-      (omega (arith, sized .at-least)) (omega (arith, sized .at-most)))
-      (λ _.
-      by-test Claim (eqb tag 6)
-      (λ _. table-number bytes given long fit (byteAt bytes 3))
-      (λ _. flags-number bytes given long fit (byteAt bytes 3)))))))
-    where
-      given : Card
-      given = old .card
+  abbrev long : length (given .ram) ≡ cardWords
+  long = sound .whole-memory
 
-      Claim : Field → Type 0
-      Claim = SameNumber bytes given
-
-      long : length (given .ram) ≡ cardWords
-      long = sound .whole-memory
+  -- the first field, by its tag; one that is no setup has one before it, so that the card is fit
+  first-number : (tag : Tag) → lengthFits tag size ≡ true → isDue tag (old .seen) ≡ true
+      → SameNumber bytes given (fieldAt bytes tag 3 size)
+  unfolding lengthFits fieldAt
+  first-number tags.Setup fits due =
+      setup-number bytes given (byteAt bytes 3) (byteAt bytes 4) (byteAt bytes 5)
+  first-number tags.Word fits due =
+      word-number bytes given long (sound .fit due) (byteAt bytes 3) (wordAt bytes 4)
+      (timeAt bytes 6)
+  first-number tags.Silence fits due =
+      silence-number bytes given long (sound .fit due) (byteAt bytes 3) (timeAt bytes 4)
+  first-number tags.ReadQueue fits due = queue-read-number bytes given long (sound .fit due)
+  first-number tags.HostWrite fits due =
+      let sized = write-size size fits in
+      write-number bytes given long (sound .fit due) (wordAt bytes 3) 5 ((size - 2) / 2)
+      (omega (arith, sized .at-least)) (omega (arith, sized .at-most))
+  first-number tags.MoveTable fits due =
+      table-number bytes given long (sound .fit due) (byteAt bytes 3)
+  first-number tags.SetFlags fits due =
+      flags-number bytes given long (sound .fit due) (byteAt bytes 3)
+  first-number tags.Unknown fits due = absurd (true≢false (sym fits))
 
   -- what a reading tells of the action's number
   abbrev Tells : Reading → Type 0
@@ -177,23 +162,24 @@ module _ (bytes : List ℕ) (old : Tray) (sound : SoundTray old) where
   Tells (Refused number place) =
       isForValue number ≡ true → actionOf bytes (firstField bytes) (old .card) .refusal ≡ number
 
-  reading-tells : Tells (readAt bytes 0 (old .begun))
+  reading-tells : Tells (readAt bytes 0 (old .seen))
   unfolding readAt
   reading-tells =
       by-test Tells (eqb (bytesLeft bytes 0) 0) (λ _. tt) (λ _.
-      by-test Tells (not (isTag tag)) (λ _. other) (λ _.
+      by-test Tells (isUnknown (tagAt bytes 0)) (λ _. other) (λ _.
       by-test Tells (ltb (bytesLeft bytes 0) 3) (λ _. other) (λ _.
-      by-test Tells (not (lengthFits tag size)) (λ _. other) (λ fits.
+      by-test Tells (not (lengthFits (tagAt bytes 0) size)) (λ _. other) (λ fits.
       by-test Tells (ltb (bytesLeft bytes 0) (3 + size)) (λ _. other) (λ _.
-      by-test Tells (Bool·beq (old .begun) (eqb tag 1)) (λ _. other) (λ in-turn.
+      by-test Tells (not (isDue (tagAt bytes 0) (old .seen))) (λ _. other) (λ due.
       by-test Tells (eqb (valueRefusal (firstField bytes)) 0) (λ _. tt)
-      (λ _ _. first-number (not-false (lengthFits tag size) fits) in-turn)))))))
+      (λ _ _. first-number (tagAt bytes 0) (not-false (lengthFits (tagAt bytes 0) size) fits)
+      (not-false (isDue (tagAt bytes 0) (old .seen)) due))))))))
     where
       -- the number is another
       other : {refusal number : ℕ} → false ≡ true → refusal ≡ number
       other is = absurd (true≢false (sym is))
 
-  pub refused-alike : {number place : ℕ} → readAt bytes 0 (old .begun) ≡ Refused number place
+  pub refused-alike : {number place : ℕ} → readAt bytes 0 (old .seen) ≡ Refused number place
       → isForValue number ≡ true
       → actionOf bytes (firstField bytes) (old .card) .refusal ≡ number
   refused-alike is = subst Tells is reading-tells

@@ -105,7 +105,7 @@ pub row-after : (old : Ran) (message next : OpenMessage) (core : Core) (end : Ro
       run =
           record {
             held = record { core = core; ring = old .run .held .ring };
-            begun = old .run .begun;
+            seen = old .run .seen;
             fields = end .fields;
             offset = end .offset;
           };

@@ -23,6 +23,7 @@ use Rattle.message.specs.Asked.{asks, keepsBack}
 use Rattle.message.proofs.WantsLaws.{wants-at-most}
 use Rattle.terminal.specs.State.{withMessage}
 use Rattle.recording.specs.declared.words.Found.{Found}
+use Rattle.recording.specs.declared.seen.Seen.{Seen}
 use Rattle.recording.specs.declared.words.Found.the-variants.{Value, Nothing}
 use Rattle.recording.specs.AsCoded.Found.{wordFound}
 use Rattle.recording.proofs.Choices.{both-of}
@@ -71,18 +72,18 @@ row-grows window marks block (suc fuel) now =
         }
 
 -- what the test allows
-record Able (begun : Bool) (room most : ℕ) : Type 0 where
-  is-begun : begun ≡ true
+record Able (seen : Seen) (room most : ℕ) : Type 0 where
+  after-setup : seen .setup ≡ true
   enough : lineRoom ≤ room
   many : mostWords < most
 
-able-tells : (begun : Bool) (room most : ℕ) → mayTakeRow begun room most ≡ true
-    → Able begun room most
-able-tells begun room most is =
-    let first = both-of (begun && leb lineRoom room) (ltb mostWords most) is in
-    let second = both-of begun (leb lineRoom room) (first .0) in
+able-tells : (seen : Seen) (room most : ℕ) → mayTakeRow seen room most ≡ true
+    → Able seen room most
+able-tells seen room most is =
+    let first = both-of (seen .setup && leb lineRoom room) (ltb mostWords most) is in
+    let second = both-of (seen .setup) (leb lineRoom room) (first .0) in
     record {
-      is-begun = second .0;
+      after-setup = second .0;
       enough = leb-true lineRoom room (second .1);
       many = ltb-true mostWords most (first .1);
     }
@@ -92,12 +93,12 @@ record Fits (wanted most : ℕ) : Type 0 where
   at-most : wanted ≤ most
   below : 0 < most → wanted < most
 
-wanted-fits : (begun : Bool) (room most : ℕ) (message : OpenMessage)
-    → Fits (wantedBy (mayTakeRow begun room most) message) most
-wanted-fits begun room most message = go (mayTakeRow begun room most) refl where
-  go : (able : Bool) → mayTakeRow begun room most ≡ able → Fits (wantedBy able message) most
+wanted-fits : (seen : Seen) (room most : ℕ) (message : OpenMessage)
+    → Fits (wantedBy (mayTakeRow seen room most) message) most
+wanted-fits seen room most message = go (mayTakeRow seen room most) refl where
+  go : (able : Bool) → mayTakeRow seen room most ≡ able → Fits (wantedBy able message) most
   go true is =
-      let many = able-tells begun room most is .many in
+      let many = able-tells seen room most is .many in
       let few = wants-at-most message in
       record { at-most = omega (arith, many, few); below = λ _. omega (arith, many, few) }
   go false is = record { at-most = omega arith; below = λ some. some }
@@ -108,7 +109,7 @@ module _ (room : ℕ) (old new : Ran) (message : OpenMessage) (window ram ram′
     (is-new : new ≡ ranAfter old message end)
     (is-end : stored end ram′
     ≡ rowStored (wanted - first .taken) window marks block (stored first ram))
-    (is-wanted : wanted ≡ wantedBy (mayTakeRow (old .run .begun) room most) message) where
+    (is-wanted : wanted ≡ wantedBy (mayTakeRow (old .run .seen) room most) message) where
   pub words-fit : end .taken - first .taken ≤ most
   words-fit =
       let grown : Grows (wanted - first .taken) (stored first ram) (stored end ram′) =
@@ -116,13 +117,13 @@ module _ (room : ℕ) (old new : Ran) (message : OpenMessage) (window ram ram′
       (row-grows window marks block (wanted - first .taken) (stored first ram)) in
       let fitting : Fits wanted most =
       subst (λ (any : ℕ). Fits any most) (sym is-wanted)
-      (wanted-fits (old .run .begun) room most message) in
+      (wanted-fits (old .run .seen) room most message) in
       omega (arith, grown .at-least, grown .at-most, fitting .at-most)
 
 module _ (old : Ran) (message : OpenMessage) (window ram ram′ : List ℕ)
     (room most wanted marks : ℕ) (end : Row)
     (is-open : old .run .held .core .message ≡ Open message)
-    (is-wanted : wanted ≡ wantedBy (mayTakeRow (old .run .begun) room most) message)
+    (is-wanted : wanted ≡ wantedBy (mayTakeRow (old .run .seen) room most) message)
     (is-marks : marks ≡ marksOn (message .line))
     (is-end : stored end ram′
     ≡ rowStored (wanted - message .taken) window marks (message .block)
@@ -152,7 +153,7 @@ module _ (old : Ran) (message : OpenMessage) (window ram ram′ : List ℕ)
   fitting : Fits wanted most
   fitting =
       subst (λ (any : ℕ). Fits any most) (sym is-wanted)
-      (wanted-fits (old .run .begun) room most message)
+      (wanted-fits (old .run .seen) room most message)
 
   pub words-grow : message .taken ≤ end .taken
   words-grow = grown .at-least
@@ -185,7 +186,7 @@ module _ (old : Ran) (message : OpenMessage) (window ram ram′ : List ℕ)
                           };
                       ring = old .run .held .ring;
                     };
-                begun = old .run .begun;
+                seen = old .run .seen;
                 fields = old .run .fields;
                 offset = old .run .offset;
               };
@@ -231,11 +232,11 @@ module _ (old : Ran) (message : OpenMessage) (window ram ram′ : List ℕ)
           zero-less : most - (message .taken - message .taken) ≡ most
           zero-less = omega arith
 
-      some-words : Able (old .run .begun) room most → message .stage ≡ Data
+      some-words : Able (old .run .seen) room most → message .stage ≡ Data
           → keepsBack (asks message) message ≡ false → wanted ≡ asks message .takes → LeadsOn
       some-words able in-data served is-takes =
           let led =
-          row-led old message places out window last (able .is-begun) is-going
+          row-led old message places out window last (able .after-setup) is-going
           (rw is-room at (able .enough)) in-data served
           fuel (stored first ram) (rw is-takes (omega arith)) in
           let is-last : stored end ram′
@@ -256,16 +257,16 @@ module _ (old : Ran) (message : OpenMessage) (window ram ram′ : List ℕ)
 
       row-leads : LeadsOn
       row-leads =
-          go (mayTakeRow (old .run .begun) room most) refl
+          go (mayTakeRow (old .run .seen) room most) refl
           (message .stage) refl (keepsBack (asks message) message) refl
         where
-          go : (able : Bool) → mayTakeRow (old .run .begun) room most ≡ able
+          go : (able : Bool) → mayTakeRow (old .run .seen) room most ≡ able
               → (stage : Stage) → message .stage ≡ stage
               → (kept : Bool) → keepsBack (asks message) message ≡ kept → LeadsOn
           go false unable stage is-stage kept is-kept = no-words (is-wanted ∙ rw unable)
           go true able Data in-data true kept = no-words (is-wanted ∙ rw (able, in-data, kept))
           go true able Data in-data false served =
-              some-words (able-tells (old .run .begun) room most able) in-data served
+              some-words (able-tells (old .run .seen) room most able) in-data served
               (is-wanted ∙ rw (able, in-data, served))
           go true able SecondCommand stage kept is-kept = no-words (is-wanted ∙ rw (able, stage))
           go true able AwaitingStatus stage kept is-kept = no-words (is-wanted ∙ rw (able, stage))
@@ -297,7 +298,7 @@ pub row-taken : (old new : Ran) (message : OpenMessage) (window ram ram′ : Lis
       offset = old .run .offset;
     }) ram)
     → marks ≡ marksOn (message .line)
-    → wanted ≡ wantedBy (mayTakeRow (old .run .begun) room most) message
+    → wanted ≡ wantedBy (mayTakeRow (old .run .seen) room most) message
     → RowTaken window room most old ram left new ram′
 row-taken old new message window ram ram′ room most left wanted marks end
     is-new is-open is-left is-end is-marks is-wanted =

@@ -27,14 +27,15 @@ use Rattle.recording.specs.declared.field.Field.the-variants.{
   Setup,
   Word,
   Silence,
-  QueueRead,
+  ReadQueue,
   HostWrite,
-  Table,
-  Flags,
+  MoveTable,
+  SetFlags,
 }
 use Rattle.recording.specs.declared.reading.Reading.the-variants.{Taken}
 use Rattle.recording.specs.Field.{isSetup}
 use Rattle.recording.specs.Reading.{readAt}
+use Rattle.recording.specs.Value.{valuedAt}
 use Rattle.recording.proofs.TakenLaws.{setup-by-turn}
 use Rattle.recording.proofs.InOrder.{InOrder, taken-in-order}
 use Rattle.tray.specs.Happening.{Happening, setup, event, happeningOf, happened}
@@ -46,7 +47,7 @@ use Rattle.tray.specs.Sound.{SoundTray}
 pub start-is-sound : (ram : List ℕ) → length ram ≡ cardWords → SoundTray (trayOver ram)
 unfolding trayOver
 start-is-sound ram long =
-    record { whole-memory = long; fit = λ begun. absurd (true≢false (sym begun)) }
+    record { whole-memory = long; fit = λ seen. absurd (true≢false (sym seen)) }
 
 -- ---- a field
 
@@ -59,8 +60,8 @@ happening-keeps-length (event told) old = step-writes-only told old .same-length
 -- a setup makes a fit terminal, and all else keeps it fit
 happening-is-fit : (bytes : List ℕ) (field : Field) (place next : ℕ) (old : Card)
     → InOrder place next field → (isSetup field ≡ false → FitCard old)
-    → FitCard (happened (happeningOf bytes field) old .card)
-unfolding happened happeningOf FitEvent terminalAtSetup
+    → FitCard (happened (happeningOf (valuedAt bytes field)) old .card)
+unfolding happened happeningOf valuedAt FitEvent terminalAtSetup
 happening-is-fit bytes (Setup station table flags) place next old in-order fit =
     fit-card-parts _
     (fit-at-setup station table flags (in-order .station-at-most) (in-order .table-at-most)
@@ -69,21 +70,21 @@ happening-is-fit bytes (Word marks value time) place next old in-order fit =
     fit-stays-fit (word _) old tt (fit refl)
 happening-is-fit bytes (Silence line time) place next old in-order fit =
     fit-stays-fit (silence _ time) old tt (fit refl)
-happening-is-fit bytes QueueRead place next old in-order fit =
+happening-is-fit bytes ReadQueue place next old in-order fit =
     fit-stays-fit queueRead old tt (fit refl)
 happening-is-fit bytes (HostWrite address first count) place next old in-order fit =
     fit-stays-fit (hostWrite address _) old tt (fit refl)
-happening-is-fit bytes (Table table) place next old in-order fit =
+happening-is-fit bytes (MoveTable table) place next old in-order fit =
     fit-stays-fit (tableMove table) old in-order (fit refl)
-happening-is-fit bytes (Flags flags) place next old in-order fit =
+happening-is-fit bytes (SetFlags flags) place next old in-order fit =
     fit-stays-fit (flagsWrite flags) old in-order (fit refl)
 
 module _ (bytes : List ℕ) (place : ℕ) (old : Tray) {field : Field} {next : ℕ}
-    (is : readAt bytes place (old .begun) ≡ Taken field next) where
+    (is : readAt bytes place (old .seen) ≡ Taken field next) where
   -- a field that is no setup has one before it
-  pub begun-before : isSetup field ≡ false → old .begun ≡ true
-  begun-before other =
-      not-false (old .begun) (sym (setup-by-turn bytes place (old .begun) is) ∙ other)
+  pub setup-before : isSetup field ≡ false → old .seen .setup ≡ true
+  setup-before other =
+      not-false (old .seen .setup) (sym (setup-by-turn bytes place (old .seen) is) ∙ other)
 
   pub taking-is-sound : (size : ℕ) → SoundTray old
       → SoundTray (taking bytes field size old)
@@ -91,9 +92,10 @@ module _ (bytes : List ℕ) (place : ℕ) (old : Tray) {field : Field} {next : �
   taking-is-sound size sound =
       record {
         whole-memory =
-            happening-keeps-length (happeningOf bytes field) (old .card) ∙ sound .whole-memory;
+            happening-keeps-length (happeningOf (valuedAt bytes field)) (old .card)
+            ∙ sound .whole-memory;
         fit =
             λ _. fit-card-whole (happening-is-fit bytes field place next (old .card)
-            (taken-in-order bytes place (old .begun) is)
-            (λ other. fit-card-parts (old .card) (sound .fit (begun-before other))));
+            (taken-in-order bytes place (old .seen) is)
+            (λ other. fit-card-parts (old .card) (sound .fit (setup-before other))));
       }

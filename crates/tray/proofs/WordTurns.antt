@@ -25,6 +25,7 @@ use Rattle.recording.specs.declared.words.Found.{Found}
 use Rattle.recording.specs.declared.words.Found.the-variants.{Value, Nothing}
 use Rattle.recording.specs.Bytes.{timeAt}
 use Rattle.recording.specs.AsCoded.Found.{wordFound}
+use Rattle.recording.specs.Value.{valuedAt}
 use Rattle.recording.proofs.FoundLaws.{found-is-read, found-moves-on}
 use Rattle.lines.specs.Written.{lineRoom}
 use Rattle.tray.specs.declared.Ran.{Ran}
@@ -91,7 +92,7 @@ unfolding turns
 one-turn window last left old new going is = rw (is, going)
 
 module _ (ran : Ran) (message : OpenMessage) (places out window : List ℕ) (last : Bool)
-    (begun : ran .run .begun ≡ true) (going : ran .stop ≡ Going)
+    (after-setup : ran .run .seen .setup ≡ true) (going : ran .stop ≡ Going)
     (enough : lineRoom ≤ length out - ran .put)
     (in-data : message .stage ≡ Data) (served : keepsBack (asks message) message ≡ false) where
   abbrev passedAt : Stored → Passed
@@ -106,13 +107,13 @@ module _ (ran : Ran) (message : OpenMessage) (places out window : List ℕ) (las
   pub word-is-turn : (now : Stored) (value next : ℕ) → now .row .taken < most-words
       → wordFound window (now .row .at) marks ≡ Value value next
       → turn window last (passedAt now) ≡ passedAt (wordStored (message .block) value next now)
-  unfolding turn passing takes taking takingLine happened happeningOf step
+  unfolding turn passing takes taking takingLine happened happeningOf valuedAt step
       ranAfter further withMessage
   word-is-turn now value next more is =
       let marked = data-marks (message .line) in
       let at : ℕ = now .row .at in
       let ten : next - at ≡ 10 =
-      omega (arith, found-moves-on window at marks (marked .few) is) in
+      omega (arith, found-moves-on window at marks (marked .few) (ran .run .seen) after-setup is) in
       let heard : Word = wordOf marks value (timeAt window (at + 6)) in
       let stored-word =
       word-is-stored (passedAt now .tray .card)
@@ -121,8 +122,7 @@ module _ (ran : Ran) (message : OpenMessage) (places out window : List ℕ) (las
       (marked .of-data) (marked .sound) (marked .joined) (marked .on-line) in
       rw (
         le-ltb (length out - ran .put) lineRoom enough,
-        begun,
-        found-is-read window at marks (marked .few) is,
+        found-is-read window at marks (marked .few) (ran .run .seen) after-setup is,
         stored-word,
         ten,
         ← nothing-written out (ran .put),

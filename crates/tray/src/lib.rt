@@ -9,6 +9,7 @@ ghost use Rattle.terminal.specs.declared.state.Reply.the-variants.{Silent};
 ghost use Rattle.terminal.specs.Event.{shown, replied};
 ghost use Rattle.lines.specs.Written.{put};
 ghost use Rattle.recording.specs.Bytes.{wordsAt};
+ghost use Rattle.recording.specs.Value.{valuedAt};
 ghost use Rattle.tray.specs.Happening.{happeningOf, happened};
 ghost use Rattle.tray.specs.AsCoded.Window.{
   isGoing,
@@ -37,6 +38,7 @@ use card::host;
 use queue::Ring;
 use recording::Field;
 use recording::Reading;
+use recording::Seen;
 use std::num;
 use terminal::state::Answer;
 use terminal::state::Core;
@@ -46,8 +48,8 @@ use terminal::state::Reply;
 // How far a run has come. The queue's places and the RAM are lent.
 pub struct Run {
     pub held: Held,
-    // a setup has been read
-    pub begun: bool,
+    // what the reader has seen
+    pub seen: Seen,
     // how many fields were taken
     pub fields: u64,
     // where in the recording the next one begins
@@ -98,7 +100,7 @@ impl Run {
                 core: core,
                 ring: ring,
             },
-            begun: false,
+            seen: Seen::nothing(),
             fields: 0,
             offset: 0,
         }
@@ -154,7 +156,7 @@ fn happen(
     requires { ⌜ WordsThere (now window) field ⌝ }
     ensures { λ left. ⌜ shown (cardOf (left .held) (now (places .exit)) (now (ram .exit)))
         (left .answer)
-        ≡ happened (happeningOf (now (window .entry)) field)
+        ≡ happened (happeningOf (valuedAt (now (window .entry)) field))
         (cardOf held (now (places .entry)) (now (ram .entry))) ⌝ }
 {
     let core = held.core;
@@ -186,7 +188,7 @@ fn happen(
                 answer: Answer::Replied(reply),
             }
         }
-        Field::QueueRead => {
+        Field::ReadQueue => {
             let taken = ring.read(places);
             let left = taken.ring;
             Happened {
@@ -205,11 +207,11 @@ fn happen(
             write_words(ram, window, address, first, count);
             silently(core, ring)
         }
-        Field::Table { table } => {
+        Field::MoveTable { table } => {
             let moved = core.move_table(table as u16);
             silently(moved, ring)
         }
-        Field::Flags { flags } => {
+        Field::SetFlags { flags } => {
             let set = core.set_flags(flags as u16);
             silently(set, ring)
         }
@@ -259,10 +261,12 @@ fn take_field(
     let size = (next - ran.at) as u64;
     let fields = num::wrapping_add_u64(run.fields, 1);
     let offset = num::wrapping_add_u64(run.offset, size);
+    let before = run.seen;
+    let seen = before.after(field);
     Ran {
         run: Run {
             held: held,
-            begun: true,
+            seen: seen,
             fields: fields,
             offset: offset,
         },
@@ -325,7 +329,8 @@ fn turn(
         return ran.with_stop(ran.put, Stop::Full);
     }
     let run = ran.run;
-    let reading = recording::read_field(window, ran.at, run.begun);
+    let seen = run.seen;
+    let reading = recording::read_field(window, ran.at, seen);
     match reading {
         Reading::Taken { field, next } => { take_field(ran, places, ram, window, out, field, next) }
         Reading::End => {

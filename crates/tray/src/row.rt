@@ -103,7 +103,8 @@ pub(crate) fn take_row(ran: Ran, ram: &mut [u16], window: &[u8], room: usize, mo
             left: most,
         };
     };
-    let able = run.begun & (lines::LINE_ROOM <= room) & (32 < most);
+    let seen = run.seen;
+    let able = seen.setup & (lines::LINE_ROOM <= room) & (32 < most);
     let wanted = wanted_by(able, message);
     let start = Row {
         at: ran.at,
@@ -130,6 +131,7 @@ fn after_row(ran: Ran, message: OpenMessage, end: Row) -> Ran
     let second = message.second;
     let stage = message.stage;
     let stop = ran.stop;
+    let seen = run.seen;
     let next = message.further(stage, second, end.taken);
     Ran {
         run: Run {
@@ -137,7 +139,7 @@ fn after_row(ran: Ran, message: OpenMessage, end: Row) -> Ran
                 core: core.with_message(Message::Open(next)),
                 ring: ring,
             },
-            begun: run.begun,
+            seen: seen,
             fields: end.fields,
             offset: end.offset,
         },

@@ -8,6 +8,7 @@ use Rattle.terminal.specs.State.{card, cardOf, coreAtSetup}
 use Rattle.recording.specs.declared.field.Field.{Field}
 use Rattle.recording.specs.declared.field.Field.the-variants.{HostWrite}
 use Rattle.recording.specs.Bytes.{bytesLeft}
+use Rattle.recording.specs.Seen.{nothingSeen}
 use Rattle.tray.specs.declared.Run.{Run}
 use Rattle.tray.specs.declared.Ran.{Ran}
 use Rattle.tray.specs.Run.{Tray}
@@ -17,7 +18,7 @@ use Rattle.tray.specs.AsCoded.Window.{Passed}
 abbrev pub trayOf : Run → List ℕ → List ℕ → Tray
 trayOf run places ram =
     record {
-      begun = run .begun;
+      seen = run .seen;
       card = cardOf (run .held) places ram;
       fields = run .fields;
       offset = run .offset;
@@ -28,7 +29,7 @@ unfoldable pub runAtStart : Run
 runAtStart =
     record {
       held = record { core = coreAtSetup 31 0 0; ring = ringOf 0 0 false };
-      begun = false;
+      seen = nothingSeen;
       fields = 0;
       offset = 0;
     }

@@ -12,6 +12,7 @@ use Rattle.message.specs.declared.state.Message.the-variants.{Open}
 use Rattle.message.specs.Message.{further}
 use Rattle.message.specs.Wants.{wants}
 use Rattle.terminal.specs.State.{withMessage}
+use Rattle.recording.specs.declared.seen.Seen.{Seen}
 use Rattle.recording.specs.declared.words.Found.{Found}
 use Rattle.recording.specs.declared.words.Found.the-variants.{Value, Nothing}
 use Rattle.recording.specs.AsCoded.Found.{wordFound}
@@ -62,8 +63,8 @@ abbrev pub marksOn : Bool → ℕ
 marksOn line = cond line 13 12
 
 -- a row is taken after a setup, with room for a line, where turns are left for any row
-abbrev pub mayTakeRow : Bool → ℕ → ℕ → Bool
-mayTakeRow begun room most = begun && leb lineRoom room && ltb mostWords most
+abbrev pub mayTakeRow : Seen → ℕ → ℕ → Bool
+mayTakeRow seen room most = seen .setup && leb lineRoom room && ltb mostWords most
 
 abbrev pub wantedBy : Bool → OpenMessage → ℕ
 wantedBy able message = cond able (wants message) 0
@@ -77,7 +78,7 @@ ranAfter old message end =
       run =
           record {
             held = record { core = withMessage (Open next) (held .core); ring = held .ring };
-            begun = old .run .begun;
+            seen = old .run .seen;
             fields = end .fields;
             offset = end .offset;
           };

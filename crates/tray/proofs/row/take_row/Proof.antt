@@ -32,11 +32,11 @@ cast-words c = search needs
 after-row-requires : tie.Need-after-row-requires
 after-row-requires c κs = search needs
 
-sub-t24 : tie.Need-sub-t24
-sub-t24 c =
+sub-t25 : tie.Need-sub-t25
+sub-t25 c =
     let at-store = c .before .before .before .before .before in
     let at-wanted = at-store .before .before .before in
-    let at-state = at-wanted .before .before .before .before .before in
+    let at-state = at-wanted .before .before .before .before .before .before in
     let at-start = at-state .before .before .before .before .before in
     words-fit (at-start .args .room) _ _ _ _ _ _ _ _ _ _ _ _
     (c .after-row .ensures)
@@ -71,6 +71,6 @@ take-row-spec =
     sub-words
     cast-words
     after-row-requires
-    sub-t24
+    sub-t25
     same-length
     returns-2)
