@@ -20,6 +20,9 @@ use Rattle.recording.specs.Tag.{tagOf, lengthFits}
 use Rattle.recording.specs.Field.{fieldAt}
 use Rattle.recording.specs.Seen.{nothingSeen, setupSeen}
 use Rattle.recording.specs.Reading.{readAt}
+use Rattle.recording.specs.Value.{valuedAt}
+use Rattle.recording.specs.Value as field
+use Rattle.recording.specs.Accepted.{no-more, a-field, Accepted}
 use Rattle.recording.specs.AsCoded.Found.{wordFound}
 use Rattle.recording.specs.AsCoded.Pieces.{isSettled, shifted}
 
@@ -102,6 +105,21 @@ past-the-end = refl
 an-empty-recording : readAt [] 0 nothingSeen ≡ End
 unfolding readAt tagOf lengthFits fieldAt
 an-empty-recording = refl
+
+-- the whole of it, with the values of its fields
+the-recording-is-accepted : Accepted nothingSeen tape
+    (field.setup 5 1 0
+    ∷ field.hostWrite 0x0043 (0x4002 ∷ [])
+    ∷ field.hostWrite 0x00BF (0x4003 ∷ [])
+    ∷ field.word 0x06 0x2862 0x00000028
+    ∷ field.word 0x0C 0x1111 0x0000003C
+    ∷ field.word 0x0C 0x2222 0x00000050
+    ∷ field.silence 0 0x00000064
+    ∷ field.readQueue ∷ [])
+unfolding readAt tagOf lengthFits fieldAt valuedAt
+the-recording-is-accepted =
+    a-field refl (a-field refl (a-field refl (a-field refl
+    (a-field refl (a-field refl (a-field refl (a-field refl no-more)))))))
 
 -- ---- the other fields
 

@@ -75,7 +75,21 @@ module _ (bytes : List ℕ) (place marks : ℕ) (few : marks ≤ 15) (seen : See
       let value : place + 3 + 1 ≡ place + 4 = omega arith in
       let time : place + 3 + 3 ≡ place + 6 = omega arith in
       let next : place + 3 + 7 ≡ place + 10 = omega arith in
-      rw (some, tag, first, second, high, low, all, after-setup, marked, in-order, value, time, next)
+      rw (
+        some,
+        tag,
+        first,
+        second,
+        high,
+        low,
+        all,
+        after-setup,
+        marked,
+        in-order,
+        value,
+        time,
+        next,
+      )
 
   abbrev Read : Found → Type 0
   Read (Value value next) =

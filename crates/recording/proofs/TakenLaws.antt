@@ -2,7 +2,7 @@
 -- setup exactly where none was seen before (`setup-by-turn`), and leaves a reader that has seen one
 -- (`setup-seen-after`); a refusal names the field's place, by a number of the reader's
 -- (`refused-names-place`); the end is the end (`end-is-the-end`). Assumes nothing.
-use mathlib.Core.Path.{_≡_, refl, sym, subst, _∙_}
+use mathlib.Core.Path.{_≡_, refl, sym, subst}
 use mathlib.Core.Bool.{Bool, true, false, true≢false, not, _||_}
 use mathlib.Core.List.{List}
 use Prim.Native.Nat.{ℕ, _+_, _≤_, _<_}

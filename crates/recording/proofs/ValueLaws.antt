@@ -1,10 +1,10 @@
--- The laws of `specs/Value.antt`: bytes that come behind change no values (`more-bytes-same-values`),
--- and the place of a field does not matter (`shifted-values`). Of a field at the front of bytes the
--- values tell all (`field-of-values`). Assumes nothing.
-use mathlib.Core.Path.{_≡_, refl, sym, ap}
+-- The laws of `specs/Value.antt`: bytes that come behind change no values
+-- (`more-bytes-same-values`), and the place of a field does not matter (`shifted-values`). Of a
+-- field at the front of bytes the values tell all (`field-of-values`). Assumes nothing.
+use mathlib.Core.Path.{_≡_, refl, ap}
 use mathlib.Core.List.{List, _++_}
 use Prim.Native.Nat.{ℕ}
-use lib.ListN.{length, drop}
+use lib.ListN.{drop}
 use Rattle.recording.specs.declared.field.Field.{Field}
 use Rattle.recording.specs.declared.field.Field.the-variants.{
   Setup,
@@ -17,7 +17,6 @@ use Rattle.recording.specs.declared.field.Field.the-variants.{
 }
 use Rattle.recording.specs.declared.seen.Seen.{Seen}
 use Rattle.recording.specs.declared.reading.Reading.the-variants.{Taken}
-use Rattle.recording.specs.Bytes.{wordsAt}
 use Rattle.recording.specs.Seen.{seenAfter}
 use Rattle.recording.specs.Reading.{readAt}
 use Rattle.recording.specs.Value.{hostWrite, valuedAt, fieldOf}

@@ -1,6 +1,5 @@
 // What a reader has seen of a recording, on which it depends whether a field comes in order.
 ghost use mathlib.Core.Path.{_≡_};
-ghost use mathlib.Core.Bool.{_||_};
 ghost use Rattle.recording.specs.Seen.{nothingSeen, isDue, seenAfter};
 use crate::field::Field;
 use crate::tag::Tag;

@@ -98,7 +98,8 @@ answer-and-end start bytes =
     let accepted = taken-accepted (reached .takes) in
     let front = accepted .front in
     let after = trayAfter start (length front) fields in
-    let last = has-last after (readAt left 0 (seenAfterAll fields (start .seen))) (reached .stops) in
+    let last =
+    has-last after (readAt left 0 (seenAfterAll fields (start .seen))) (reached .stops) in
     record {
       front = front;
       left = left;

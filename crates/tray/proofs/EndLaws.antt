@@ -169,7 +169,8 @@ module _ (window : List ℕ) (last : Bool) where
           → readAt window (old′ .at) (old′ .tray .seen) ≡ reading
           → Untouched (passing reading window last old′)
       go old′ so-far (Taken field next) is none =
-          absurd (true≢false (sym (setup-seen-after window (old′ .at) (old′ .tray .seen) is) ∙ none))
+          absurd (true≢false
+          (sym (setup-seen-after window (old′ .at) (old′ .tray .seen) is) ∙ none))
       go old′ so-far End is none = so-far none
       go old′ so-far (Refused number place) is none = so-far none
 

@@ -20,6 +20,7 @@
 --     ReplyLaws     the words that the library's silence sends
 --     ToldLaws      what bytes tell, one behind the other and cut at the end of a field
 --     OnwardLaws    a run goes on behind the fields that are taken
+--     ToldRun       a run of bytes that tell something goes to END
 --     AnswerLaws    every list of bytes gets an answer and an end
 --     OneBlock      one broken message costs one block, over recordings
 --     Determined    each public contract allows one outcome alone
@@ -44,6 +45,7 @@ pub mod ByActions
 pub mod ReplyLaws
 pub mod ToldLaws
 pub mod OnwardLaws
+pub mod ToldRun
 pub mod AnswerLaws
 pub mod OneBlock
 pub mod Determined

@@ -1,7 +1,7 @@
 -- A run goes on behind the fields that are taken (`goes-on`), and ends where the reader takes none
 -- (`ends-at`), so that it goes through accepted bytes to END (`accepted-run`). Assumes nothing.
 use mathlib.Core.Path.{_≡_, refl, sym, ap, _∙_}
-use mathlib.Core.Bool.{Bool, true, true≢false}
+use mathlib.Core.Bool.{true, true≢false}
 use mathlib.Core.List.{List, [], _∷_, _++_, append-assoc, cons≢nil}
 use Prim.Native.Nat.{ℕ, suc, _+_, _-_, _≤_}
 use native.Mathlib.Omega.{arith}

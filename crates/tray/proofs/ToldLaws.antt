@@ -1,12 +1,11 @@
 -- The laws of `specs/Told.antt`. What accepted bytes tell can be cut at the end of every field
 -- (`cut-telling`); bytes that begin alike, up to the end of a field, begin by telling the same
--- (`continues-telling`); bytes before bytes tell the one and then the other (`tells-then`). A run of
--- them goes to END (`telling-run`). Assumes nothing.
+-- (`continues-telling`); bytes before bytes tell the one and then the other (`tells-then`). Assumes
+-- nothing.
 use mathlib.Core.Path.{_≡_, refl, sym, ap, subst, _∙_}
 use mathlib.Core.Bool.{Bool, true}
 use mathlib.Core.List.{List, [], _∷_, _++_, cons≢nil}
-use Prim.Native.Nat.{ℕ, suc, _+_}
-use lib.ListN.{length}
+use Prim.Native.Nat.{ℕ}
 use Rattle.recording.specs.declared.seen.Seen.{Seen}
 use Rattle.recording.specs.Seen.{setupSeen}
 use Rattle.recording.specs.Value.{Valued}
@@ -18,19 +17,10 @@ use Rattle.recording.proofs.AcceptedLaws.{
   same-beginning,
 }
 use Rattle.recording.proofs.CutLaws.{cut-at-field}
-use Rattle.lines.specs.Lines.{endLine}
 use Rattle.tray.specs.Happening.{Happening, happeningOf, happenings}
-use Rattle.tray.specs.Run.{Tray, counted, whole, wholeFrom}
-use Rattle.tray.specs.Answered.{toldLines, toldCard, trayAfter}
 use Rattle.tray.specs.Told.{Tells, CutTelling, ContinuesTelling}
-use Rattle.tray.proofs.OnwardLaws.{accepted-run}
 
 -- ---- what fields tell
-
-pub length-of-happenings : (fields : List Valued) → length (happenings fields) ≡ length fields
-unfolding happenings
-length-of-happenings [] = refl
-length-of-happenings (field ∷ rest) = ap suc (length-of-happenings rest)
 
 happenings-of-append : (first second : List Valued)
     → happenings (first ++ second) ≡ happenings first ++ happenings second
@@ -110,7 +100,8 @@ pub tells-first : {seen : Seen} {front back : List ℕ} {told : Happening}
 unfolding happenings
 tells-first {seen} beginning behind =
     tells-then beginning
-    (tells-after-setup (some-told (beginning .fields) (beginning .accepted) (beginning .are)) behind)
+    (tells-after-setup (some-told (beginning .fields) (beginning .accepted) (beginning .are))
+    behind)
   where
     some-told : {bytes : List ℕ} {one : Happening} {others : List Happening} (fields : List Valued)
         → Accepted seen bytes fields → happenings fields ≡ one ∷ others
@@ -164,41 +155,3 @@ continues-telling front back beginning all =
             are = refl;
           };
     }
-
--- ---- a run of bytes that tell something
-
-module _ (start : Tray) (size : ℕ) (first : Happening) (rest : List Happening) where
-  -- how far it has come then
-  abbrev farther : Tray
-  farther =
-      record {
-        seen = setupSeen;
-        card = toldCard (first ∷ rest) (start .card);
-        fields = counted (start .fields + length (first ∷ rest));
-        offset = counted (start .offset + size);
-      }
-
-  tray-told : {bytes : List ℕ} (fields : List Valued) → Accepted (start .seen) bytes fields
-      → happenings fields ≡ first ∷ rest → trayAfter start size fields ≡ farther
-  unfolding trayAfter happenings
-  tray-told [] accepted is = absurd (cons≢nil (sym is))
-  tray-told (field ∷ others) accepted is =
-      let many : length (field ∷ others) ≡ length (first ∷ rest) =
-      sym (length-of-happenings (field ∷ others)) ∙ ap length is in
-      let after-setup : seenAfterAll (field ∷ others) (start .seen) ≡ setupSeen =
-      ap (λ (setup : Bool). record { setup = setup }) (taken-after-setup accepted) in
-      rw (after-setup, is, many) refl
-
-pub telling-run : {bytes : List ℕ} {first : Happening} {rest : List Happening} (start : Tray)
-    → Tells (start .seen) bytes (first ∷ rest)
-    → wholeFrom start bytes
-    ≡ whole
-    (toldLines (first ∷ rest) (start .card)
-    ++ endLine (farther start (length bytes) first rest .fields))
-    (farther start (length bytes) first rest)
-telling-run {bytes} {first} {rest} start tells =
-    accepted-run start (tells .accepted)
-    ∙ rw (
-      tray-told start (length bytes) first rest (tells .fields) (tells .accepted) (tells .are),
-      tells .are,
-    ) refl

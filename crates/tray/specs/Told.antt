@@ -21,8 +21,8 @@ pub record CutTelling (seen : Seen) (bytes : List ℕ) (first second : List Happ
   pub front-tells : Tells seen front first
   pub back-tells : Tells (seenAfterAll (front-tells .fields) seen) back second
 
--- the claim of `continues-telling`: what is told begins with `first`, and the rest of it is told by the
--- bytes behind
+-- the claim of `continues-telling`: what is told begins with `first`, and the rest of it is told by
+-- the bytes behind
 pub record ContinuesTelling {seen : Seen} {front : List ℕ} (back : List ℕ) {first : List Happening}
     (beginning : Tells seen front first) (told : List Happening) : Type 0 where
   pub second : List Happening

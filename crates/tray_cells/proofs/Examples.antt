@@ -8,6 +8,7 @@ use Rattle.queue.specs.Queue.{ringOf}
 use Rattle.message.specs.declared.state.Stage.the-variants.{AwaitingStatus}
 use Rattle.message.specs.declared.state.Second.the-variants.{Command}
 use Rattle.message.specs.declared.state.Message.the-variants.{Idle, Open}
+use Rattle.recording.specs.Seen.{setupSeen}
 use Rattle.tray.specs.AsCoded.Held.{runAtStart}
 use Rattle.lines.specs.Digits.{hexDigit, hexByte, hexWord, decimal, decimalBy}
 use Rattle.lines.specs.Written.{put, stored}
@@ -50,7 +51,7 @@ the-state-of-the-run :
                 };
             ring = ringOf 1 0 false;
           };
-      begun = true;
+      seen = setupSeen;
       fields = 8;
       offset = 79;
     })

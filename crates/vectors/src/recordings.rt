@@ -61,8 +61,9 @@ fn put_state(out: &mut [u8], held: Held) -> usize {
 }
 
 // Where no setup was taken there is no state, and its bytes stay zero.
-fn put_begun(out: &mut [u8], run: Run) -> usize {
-    if run.begun {
+fn put_terminal(out: &mut [u8], run: Run) -> usize {
+    let seen = run.seen;
+    if seen.setup {
         let held = run.held;
         return put_state(out, held);
     }
@@ -101,7 +102,7 @@ fn run_recording(recording: &[u8], lines: &mut [u8], state: &mut [u8]) -> Sizes 
     let start = Run::at_start();
     let ran = tray::run_window(start, &mut places, &mut ram, recording, lines, true);
     let run = ran.run;
-    let first = put_begun(state, run);
+    let first = put_terminal(state, run);
     let second = put_cells(state, first, &ram);
     Sizes {
         lines: ran.put,

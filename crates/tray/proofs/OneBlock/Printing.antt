@@ -15,7 +15,7 @@ use Rattle.tray.specs.Run.{trayOver, counted, shownLine}
 use Rattle.tray.specs.Told.{Tells}
 use Rattle.tray.specs.Answered.{toldLines, toldCard}
 use Rattle.tray.specs.OneBlock.{events, lineOf, linesOf, cardAfter, RunsTo}
-use Rattle.tray.proofs.ToldLaws.{telling-run}
+use Rattle.tray.proofs.ToldRun.{telling-run}
 
 -- ---- fields that tell events
 
