@@ -33,6 +33,8 @@ use Rattle.card.proofs.memory.write_link.Kinds as write-link-kinds
 use Rattle.card.proofs.memory.write_link.Reads as write-link-reads
 use Rattle.card.proofs.host.write_words.Kinds as write-words-kinds
 use Rattle.card.proofs.host.write_words.Reads as write-words-reads
+use Rattle.card.proofs.host.is_write.Kinds as is-write-kinds
+use Rattle.card.proofs.host.is_write.Reads as is-write-reads
 use Rattle.card.proofs.host.write.Kinds as host-write-kinds
 use Rattle.card.proofs.host.write.Reads as host-write-reads
 use Rattle.card.proofs.sent.refusal.Kinds as refusal-kinds
@@ -97,6 +99,9 @@ pub write-words :
     DeterminedAs 2 write-words-kinds.ps write-words-kinds.r write-words-reads.Post (List ℕ)
     (λ κs result exit. now (exit .0))
 write-words κs arguments result result′ exit exit′ = same
+
+pub is-write : Determined 0 is-write-kinds.ps is-write-kinds.r is-write-reads.Post
+is-write κs arguments result result′ exit exit′ = same
 
 pub host-write :
     DeterminedAs 2 host-write-kinds.ps host-write-kinds.r host-write-reads.Post Done

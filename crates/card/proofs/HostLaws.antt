@@ -6,9 +6,12 @@ use Prim.Native.Nat.{ℕ, _+_, _≤_, _<_}
 use native.Mathlib.Nat.{add-zero}
 use native.Mathlib.Numerals.{add-one}
 use native.Mathlib.Omega.{arith}
+use lib.Dec.{leb}
 use lib.ListN.{length, getD, set, drop, drop-of-length-le, length-set}
 use lib.Seq.{sets, drop-cons, set-out}
-use Rattle.card.specs.Host.{Done, done}
+use borrow.Author.Tests.{le-leb}
+use Rattle.card.specs.Memory.{wordsIn}
+use Rattle.card.specs.Host.{Done, done, mostWritten, isWrite}
 
 -- ---- one word
 
@@ -54,6 +57,14 @@ module _ {wanted ram : List ℕ} {address : ℕ} {words : List ℕ} {word : ℕ}
 
   pub left-none : length words ≤ word → ram ≡ wanted
   left-none all = sym (left .leads ∙ rw (drop-of-length-le words {i = word} all))
+
+-- ---- whether it is a write
+
+-- one to 64 words are one where they end on the card
+pub is-write-by-end : (blocks address count : ℕ) → 1 ≤ count → count ≤ mostWritten
+    → leb (address + count) (wordsIn blocks) ≡ isWrite blocks address count
+is-write-by-end blocks address count some few =
+    rw (le-leb 1 count some, le-leb count mostWritten few)
 
 -- ---- the answer
 

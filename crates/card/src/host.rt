@@ -2,7 +2,7 @@
 ghost use mathlib.Core.Path.{_≡_};
 ghost use lib.ListN.{set};
 ghost use lib.Seq.{sets};
-ghost use Rattle.card.specs.Host.{done, hostWrite};
+ghost use Rattle.card.specs.Host.{done, isWrite, hostWrite};
 use crate::place::BLOCK_CELLS;
 
 // The words of a write, at most.
@@ -29,6 +29,19 @@ pub fn write_words(ram: &mut [u16], address: u16, words: &[u16])
     }
 }
 
+// Whether so many words from an address on are a write, on a card of so many blocks.
+pub fn is_write(blocks: u16, address: u16, count: usize) -> bool
+    ensures { λ is. ⌜ is ≡ isWrite blocks address count ⌝ }
+{
+    if count < 1 {
+        return false;
+    }
+    if count > MOST_WRITTEN {
+        return false;
+    }
+    (address as usize) + count <= BLOCK_CELLS * (blocks as usize)
+}
+
 // Writes 1 to 64 words from an address on, on a card of so many blocks, and answers 0 or the number
 // of the refusal.
 pub fn write(ram: &mut [u16], blocks: u16, address: u16, words: &[u16]) -> u8
@@ -39,14 +52,7 @@ pub fn write(ram: &mut [u16], blocks: u16, address: u16, words: &[u16]) -> u8
     if ram.len() != size {
         return 1;
     }
-    if words.len() < 1 {
-        return 8;
-    }
-    if words.len() > MOST_WRITTEN {
-        return 8;
-    }
-    let first = address as usize;
-    if first + words.len() > size {
+    if !is_write(blocks, address, words.len()) {
         return 8;
     }
     write_words(ram, address, words);

@@ -4,12 +4,22 @@ use mathlib.Core.List.{List}
 use Prim.Native.Nat.{ℕ}
 use denote.Ref.{now}
 use Rattle.rules.proofs.Determined.{Determined, DeterminedAs, same}
+use Rattle.recording.proofs.seen.Seen.nothing.Kinds as nothing-kinds
+use Rattle.recording.proofs.seen.Seen.nothing.Reads as nothing-reads
+use Rattle.recording.proofs.seen.Seen.after.Kinds as after-kinds
+use Rattle.recording.proofs.seen.Seen.after.Reads as after-reads
 use Rattle.recording.proofs.reading.read_field.Kinds as read-field-kinds
 use Rattle.recording.proofs.reading.read_field.Reads as read-field-reads
 use Rattle.recording.proofs.words.find_word.Kinds as find-word-kinds
 use Rattle.recording.proofs.words.find_word.Reads as find-word-reads
 use Rattle.recording.proofs.words.copy_words.Kinds as copy-words-kinds
 use Rattle.recording.proofs.words.copy_words.Reads as copy-words-reads
+
+pub nothing-seen : Determined 0 nothing-kinds.ps nothing-kinds.r nothing-reads.Post
+nothing-seen κs arguments result result′ exit exit′ = same
+
+pub seen-after : Determined 0 after-kinds.ps after-kinds.r after-reads.Post
+seen-after κs arguments result result′ exit exit′ = same
 
 pub read-field : Determined 1 read-field-kinds.ps read-field-kinds.r read-field-reads.Post
 read-field κs arguments result result′ exit exit′ = same

@@ -7,7 +7,9 @@ use Prim.Native.Nat.{ℕ}
 use lib.ListN.{replicate, take, drop}
 use Rattle.recording.specs.declared.reading.Reading.the-variants.{End, Refused}
 use Rattle.recording.specs.Bytes.{withWords}
-use Rattle.recording.specs.Field.{lengthFits, fieldAt}
+use Rattle.recording.specs.Tag.{tagOf, lengthFits}
+use Rattle.recording.specs.Field.{fieldAt}
+use Rattle.recording.specs.Seen.{nothingSeen, setupSeen}
 use Rattle.recording.specs.Reading.{readAt}
 use Rattle.recording.specs.AsCoded.Pieces.{isSettled, shifted}
 
@@ -18,44 +20,44 @@ setup = 0x01 ∷ 0x00 ∷ 0x03 ∷ 0x05 ∷ 0x01 ∷ 0x00 ∷ []
 abbrev command : List ℕ
 command = 0x02 ∷ 0x00 ∷ 0x07 ∷ 0x06 ∷ 0x28 ∷ 0x62 ∷ 0x00 ∷ 0x00 ∷ 0x00 ∷ 0x28 ∷ []
 
-past-the-end : readAt (setup ++ command) 1000 true ≡ End
-unfolding readAt lengthFits fieldAt
+past-the-end : readAt (setup ++ command) 1000 setupSeen ≡ End
+unfolding readAt tagOf lengthFits fieldAt
 past-the-end = refl
 
 -- ---- no byte is 256 or 300, and no test asks for bytes
 
 -- 2: the station, before the table block
 station-31-with-table-block-300 :
-    readAt (0x01 ∷ 0x00 ∷ 0x03 ∷ 0x1F ∷ 300 ∷ 0x00 ∷ []) 0 false
+    readAt (0x01 ∷ 0x00 ∷ 0x03 ∷ 0x1F ∷ 300 ∷ 0x00 ∷ []) 0 nothingSeen
     ≡ Refused 2 0
-unfolding readAt lengthFits fieldAt
+unfolding readAt tagOf lengthFits fieldAt
 station-31-with-table-block-300 = refl
 
 -- 3: the table block, before the flags
 table-block-300-with-flags-64 :
-    readAt (0x01 ∷ 0x00 ∷ 0x03 ∷ 0x1E ∷ 300 ∷ 0x40 ∷ []) 0 false
+    readAt (0x01 ∷ 0x00 ∷ 0x03 ∷ 0x1E ∷ 300 ∷ 0x40 ∷ []) 0 nothingSeen
     ≡ Refused 3 0
-unfolding readAt lengthFits fieldAt
+unfolding readAt tagOf lengthFits fieldAt
 table-block-300-with-flags-64 = refl
 
-table-block-256-is-refused : readAt (0x06 ∷ 0x00 ∷ 0x01 ∷ 256 ∷ []) 0 true ≡ Refused 3 0
-unfolding readAt lengthFits fieldAt
+table-block-256-is-refused : readAt (0x06 ∷ 0x00 ∷ 0x01 ∷ 256 ∷ []) 0 setupSeen ≡ Refused 3 0
+unfolding readAt tagOf lengthFits fieldAt
 table-block-256-is-refused = refl
 
 -- ---- piece by piece
 
-a-word-waits-for-its-last-byte : isSettled (readAt (take 9 command) 0 true) ≡ false
-unfolding readAt lengthFits fieldAt
+a-word-waits-for-its-last-byte : isSettled (readAt (take 9 command) 0 setupSeen) ≡ false
+unfolding readAt tagOf lengthFits fieldAt
 a-word-waits-for-its-last-byte = refl
 
-another-tag-waits-for-nothing : isSettled (readAt (0x08 ∷ []) 0 true) ≡ true
-unfolding readAt lengthFits fieldAt
+another-tag-waits-for-nothing : isSettled (readAt (0x08 ∷ []) 0 setupSeen) ≡ true
+unfolding readAt tagOf lengthFits fieldAt
 another-tag-waits-for-nothing = refl
 
 reading-on :
-    readAt (setup ++ command) 6 true
-    ≡ shifted 4 (readAt (drop 4 (setup ++ command)) 2 true)
-unfolding readAt lengthFits fieldAt
+    readAt (setup ++ command) 6 setupSeen
+    ≡ shifted 4 (readAt (drop 4 (setup ++ command)) 2 setupSeen)
+unfolding readAt tagOf lengthFits fieldAt
 reading-on = refl
 
 -- ---- a copy of words

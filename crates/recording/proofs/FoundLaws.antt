@@ -18,12 +18,15 @@ use borrow.Author.Tests.{
 }
 use Rattle.rules.proofs.Choices.{by-test}
 use Rattle.rules.proofs.Halves.{first-of-both, second-of-both}
+use Rattle.bus.specs.Limits.{allMarks, areMarks}
 use Rattle.recording.specs.declared.field.Field.the-variants.{Word}
+use Rattle.recording.specs.declared.seen.Seen.{Seen}
 use Rattle.recording.specs.declared.words.Found.{Found}
 use Rattle.recording.specs.declared.words.Found.the-variants.{Value, Nothing}
 use Rattle.recording.specs.declared.reading.Reading.the-variants.{Taken}
 use Rattle.recording.specs.Bytes.{bytesLeft, byteAt, wordAt, timeAt}
-use Rattle.recording.specs.Field.{lengthFits, fieldAt}
+use Rattle.recording.specs.Tag.{wordTag, tagOf, lengthFits}
+use Rattle.recording.specs.Field.{fieldAt}
 use Rattle.recording.specs.Reading.{readAt}
 use Rattle.recording.specs.AsCoded.Found.{startsWord, wordFound}
 
@@ -53,14 +56,15 @@ pub ruleset finding = (found-short, found-other, found-word)
 
 -- ---- what is found is read
 
-module _ (bytes : List ℕ) (place marks : ℕ) (few : marks ≤ 15) where
+module _ (bytes : List ℕ) (place marks : ℕ) (few : marks ≤ allMarks) (seen : Seen)
+    (after-setup : seen .setup ≡ true) where
   -- a word field that starts there whole is taken, once a setup has been read
-  starts-is-read : 10 ≤ bytesLeft bytes place → byteAt bytes place ≡ 2
+  starts-is-read : 10 ≤ bytesLeft bytes place → byteAt bytes place ≡ wordTag
       → byteAt bytes (place + 1) ≡ 0 → byteAt bytes (place + 2) ≡ 7
       → byteAt bytes (place + 3) ≡ marks
-      → readAt bytes place true
+      → readAt bytes place seen
       ≡ Taken (Word marks (wordAt bytes (place + 4)) (timeAt bytes (place + 6))) (place + 10)
-  unfolding readAt lengthFits fieldAt
+  unfolding readAt tagOf lengthFits fieldAt
   starts-is-read whole tag high low marked =
       let second : place + 1 + 1 ≡ place + 2 = omega arith in
       let some : eqb (bytesLeft bytes place) 0 ≡ false =
@@ -69,16 +73,30 @@ module _ (bytes : List ℕ) (place marks : ℕ) (few : marks ≤ 15) where
       le-ltb (bytesLeft bytes place) 3 (omega (arith, whole)) in
       let all : ltb (bytesLeft bytes place) 10 ≡ false =
       le-ltb (bytesLeft bytes place) 10 whole in
-      let in-order : ltb 15 marks ≡ false = le-ltb 15 marks few in
+      let in-order : areMarks marks ≡ true = le-leb marks allMarks few in
       let value : place + 3 + 1 ≡ place + 4 = omega arith in
       let time : place + 3 + 3 ≡ place + 6 = omega arith in
       let next : place + 3 + 7 ≡ place + 10 = omega arith in
-      rw (some, tag, first, second, high, low, all, marked, in-order, value, time, next)
+      rw (
+        some,
+        tag,
+        first,
+        second,
+        high,
+        low,
+        all,
+        after-setup,
+        marked,
+        in-order,
+        value,
+        time,
+        next,
+      )
 
   abbrev Read : Found → Type 0
   Read (Value value next) =
       (next ≡ place + 10)
-      × (readAt bytes place true ≡ Taken (Word marks value (timeAt bytes (place + 6))) next)
+      × (readAt bytes place seen ≡ Taken (Word marks value (timeAt bytes (place + 6))) next)
   Read Nothing = place ≡ place
 
   found-tells : Read (wordFound bytes place marks)
@@ -88,7 +106,7 @@ module _ (bytes : List ℕ) (place marks : ℕ) (few : marks ≤ 15) where
       (λ is. go is) (λ _. refl)
     where
       tag : Bool
-      tag = eqb (byteAt bytes place) 2
+      tag = eqb (byteAt bytes place) wordTag
 
       high : Bool
       high = eqb (byteAt bytes (place + 1)) 0
@@ -110,7 +128,7 @@ module _ (bytes : List ℕ) (place marks : ℕ) (few : marks ≤ 15) where
             starts-is-read
                 (leb-true 10 (bytesLeft bytes place)
                 (first-of-both long (tag && high && low && marked) is))
-                (eqb-true (byteAt bytes place) 2 (first-of-both tag high to-high))
+                (eqb-true (byteAt bytes place) wordTag (first-of-both tag high to-high))
                 (eqb-true (byteAt bytes (place + 1)) 0 (second-of-both tag high to-high))
                 (eqb-true (byteAt bytes (place + 2)) 7 (second-of-both (tag && high) low to-low))
                 (eqb-true (byteAt bytes (place + 3)) marks
@@ -119,7 +137,7 @@ module _ (bytes : List ℕ) (place marks : ℕ) (few : marks ≤ 15) where
 
   module _ {value next : ℕ} (is : wordFound bytes place marks ≡ Value value next) where
     pub found-is-read :
-        readAt bytes place true ≡ Taken (Word marks value (timeAt bytes (place + 6))) next
+        readAt bytes place seen ≡ Taken (Word marks value (timeAt bytes (place + 6))) next
     found-is-read = subst Read is found-tells .1
 
     pub found-moves-on : next ≡ place + 10

@@ -1,6 +1,7 @@
 -- The mathematics of recordings. Read `Theorems`: what is proved.
 --     Theorems       the statements, by name
---     FieldLaws      the table of tags on each way that the code takes
+--     TagLaws        the sizes that fit a tag
+--     FieldLaws      what a field holds on each way that the code takes
 --     ReadingLaws    the reader's order on each way that the code takes
 --     WordsLaws      the words of a host write, one by one
 --     TakenLaws      what a reading tells: where a field ends, whom a refusal names
@@ -10,9 +11,13 @@
 --     MoreBytes      bytes that come behind change no reading that is settled
 --     TakenWords     the words of a host write that was taken
 --     Shifted        a recording read as if it began further on
+--     ValueLaws      the values of a field, wherever it stands
+--     AcceptedLaws   the reader takes one row of fields alone
+--     CutLaws        accepted bytes cut at the end of a field
 --     Determined     each public contract allows one outcome alone
---     Examples       what no run shows, by computation
+--     Examples       the definitions at work, by computation
 mod Theorems
+pub mod TagLaws
 pub mod FieldLaws
 pub mod ReadingLaws
 pub mod WordsLaws
@@ -23,5 +28,8 @@ pub mod InOrder
 pub mod MoreBytes
 pub mod TakenWords
 pub mod Shifted
+pub mod ValueLaws
+pub mod AcceptedLaws
+pub mod CutLaws
 pub mod Determined
 mod Examples

@@ -2,7 +2,7 @@
 -- every refusal but 5. 133 bytes settle any (`settled-by-133`). Assumes nothing.
 use mathlib.Core.Path.{_≡_, refl, sym, ap, _∙_}
 use mathlib.Core.Logic.{_≢_}
-use mathlib.Core.Bool.{Bool, true, false, true≢false, cond, not, Bool·beq}
+use mathlib.Core.Bool.{Bool, true, false, true≢false, cond, not}
 use mathlib.Core.List.{List, _++_}
 use Prim.Native.Nat.{ℕ, zero, suc, _+_, _*_, _≤_, _<_}
 use native.Mathlib.Omega.{arith}
@@ -17,17 +17,32 @@ use borrow.Author.Tests.{
   le-ltb,
   not-false,
 }
-use Rattle.rules.proofs.Choices.{by-test, same-choice}
+use Rattle.rules.proofs.Choices.{by-test}
+use Rattle.card.specs.Memory.{cardBlocks}
+use Rattle.recording.specs.declared.tag.Tag.{Tag}
+use Rattle.recording.specs.declared.tag.Tag.the-variants.{
+  Setup,
+  Word,
+  Silence,
+  ReadQueue,
+  HostWrite,
+  MoveTable,
+  SetFlags,
+  Unknown,
+}
 use Rattle.recording.specs.declared.field.Field.{Field}
+use Rattle.recording.specs.declared.seen.Seen.{Seen}
 use Rattle.recording.specs.declared.reading.Reading.{Reading}
 use Rattle.recording.specs.declared.reading.Reading.the-variants.{Taken, End, Refused}
 use Rattle.recording.specs.Bytes.{bytesLeft, byteAt, wordAt, timeAt, wordsAt}
-use Rattle.recording.specs.Field.{isTag, lengthFits, fieldAt, valueRefusal, ValueThere}
+use Rattle.recording.specs.Tag.{tagAt, isUnknown, lengthFits}
+use Rattle.recording.specs.Field.{fieldAt, valueRefusal, ValueThere}
+use Rattle.recording.specs.Seen.{isDue}
 use Rattle.recording.specs.Reading.{readAt}
 use Rattle.recording.specs.AsCoded.Pieces.{isSettled}
+use Rattle.recording.proofs.TagLaws.{size-at-most}
 use Rattle.recording.proofs.FieldLaws.{
   by-refusal,
-  size-at-most,
   setup-there,
   word-there,
   silence-there,
@@ -59,36 +74,33 @@ module _ (front back : List ℕ) where
   words-of-more first (suc count) inside =
       rw (word-of-more first (omega arith), words-of-more (first + 2) count (omega arith))
 
-  pub field-of-more : (tag value size : ℕ) → ValueThere front tag value size
+  pub field-of-more : (tag : Tag) (value size : ℕ) → ValueThere front tag value size
       → fieldAt (front ++ back) tag value size ≡ fieldAt front tag value size
   unfolding fieldAt
-  field-of-more tag value size there =
-      same-choice (eqb tag 1) (λ is.
-      let inside : value + 3 ≤ length front = setup-there there (eqb-true tag 1 is) in
+  field-of-more Setup value size there =
+      let inside : value + 3 ≤ length front = setup-there there refl in
       rw (
         byte-of-more value (omega arith),
         byte-of-more (value + 1) (omega arith),
         byte-of-more (value + 2) (omega arith),
-      )) (λ setup.
-      same-choice (eqb tag 2) (λ is.
-      let inside : value + 7 ≤ length front = word-there there (eqb-true tag 2 is) in
+      )
+  field-of-more Word value size there =
+      let inside : value + 7 ≤ length front = word-there there refl in
       rw (
         byte-of-more value (omega arith),
         word-of-more (value + 1) (omega arith),
         time-of-more (value + 3) (omega arith),
-      )) (λ word.
-      same-choice (eqb tag 3) (λ is.
-      let inside : value + 5 ≤ length front = silence-there there (eqb-true tag 3 is) in
-      rw (byte-of-more value (omega arith), time-of-more (value + 1) (omega arith))) (λ silence.
-      same-choice (eqb tag 4) (λ _. refl) (λ read.
-      same-choice (eqb tag 5) (λ is.
-      let inside : 2 ≤ size = address-there there (eqb-true tag 5 is) in
-      rw (word-of-more value (omega (arith, there .inside)))) (λ write.
-      same-choice (eqb tag 6)
-      (λ is. rw (byte-of-more value (table-there there (eqb-true tag 6 is)))) (λ _.
-      rw (byte-of-more value
-      (flags-there there (eqb-false tag 1 setup) (eqb-false tag 2 word) (eqb-false tag 3 silence)
-      (eqb-false tag 4 read) (eqb-false tag 5 write)))))))))
+      )
+  field-of-more Silence value size there =
+      let inside : value + 5 ≤ length front = silence-there there refl in
+      rw (byte-of-more value (omega arith), time-of-more (value + 1) (omega arith))
+  field-of-more ReadQueue value size there = refl
+  field-of-more HostWrite value size there =
+      let inside : 2 ≤ size = address-there there refl in
+      rw (word-of-more value (omega (arith, there .inside)))
+  field-of-more MoveTable value size there = rw (byte-of-more value (table-there there refl))
+  field-of-more SetFlags value size there = rw (byte-of-more value (flags-there there refl))
+  field-of-more Unknown value size there = refl
 
 -- ---- a settled reading stays
 
@@ -113,13 +125,13 @@ same-way : (old : Reading) {left left′ : Reading} (test : Bool) → (test ≡ 
 same-way old true rest = same
 same-way old false rest = rest refl
 
-module _ (front back : List ℕ) (place : ℕ) (begun : Bool) where
-  reading-stays : Stays (readAt front place begun) (readAt (front ++ back) place begun)
+module _ (front back : List ℕ) (place : ℕ) (seen : Seen) where
+  reading-stays : Stays (readAt front place seen) (readAt (front ++ back) place seen)
   unfolding readAt
   reading-stays =
       open-way End (eqb left 0) (eqb left′ 0) refl still-some (λ some.
       rw (byte-of-more front back place (omega (arith, eqb-false left 0 some)))
-      (same-way (Refused 6 place) (not (isTag tag)) (λ _.
+      (same-way (Refused 6 place) (isUnknown tag) (λ _.
       open-way (Refused 5 place) (ltb left 3) (ltb left′ 3) refl (still 3) (λ long.
       rw (word-of-more front back (place + 1) (omega (arith, ltb-false left 3 long)))
       (same-way (Refused 7 place) (not (lengthFits tag size)) (λ fits.
@@ -132,8 +144,8 @@ module _ (front back : List ℕ) (place : ℕ) (begun : Bool) where
       left′ : ℕ
       left′ = bytesLeft (front ++ back) place
 
-      tag : ℕ
-      tag = byteAt front place
+      tag : Tag
+      tag = tagAt front place
 
       size : ℕ
       size = wordAt front (place + 1)
@@ -159,29 +171,29 @@ module _ (front back : List ℕ) (place : ℕ) (begun : Bool) where
           }
 
   -- bytes that come behind change no reading that is settled
-  pub settled-stays : isSettled (readAt front place begun) ≡ true
-      → readAt (front ++ back) place begun ≡ readAt front place begun
+  pub settled-stays : isSettled (readAt front place seen) ≡ true
+      → readAt (front ++ back) place seen ≡ readAt front place seen
   settled-stays = reading-stays .stays
 
   pub more-bytes-same-field : {field : Field} {next : ℕ}
-      → readAt front place begun ≡ Taken field next
-      → readAt (front ++ back) place begun ≡ Taken field next
+      → readAt front place seen ≡ Taken field next
+      → readAt (front ++ back) place seen ≡ Taken field next
   more-bytes-same-field is = settled-stays (ap isSettled is) ∙ is
 
   pub more-bytes-same-refusal : {number named : ℕ}
-      → readAt front place begun ≡ Refused number named → number ≢ 5
-      → readAt (front ++ back) place begun ≡ Refused number named
+      → readAt front place seen ≡ Refused number named → number ≢ 5
+      → readAt (front ++ back) place seen ≡ Refused number named
   more-bytes-same-refusal {number} is other =
       settled-stays (ap isSettled is ∙ rw (ne-eqb number 5 other)) ∙ is
 
 -- ---- enough bytes settle a reading: a field has 133 at the most
 
-pub settled-by-133 : (bytes : List ℕ) (place : ℕ) (begun : Bool) → place + 133 ≤ length bytes
-    → isSettled (readAt bytes place begun) ≡ true
+pub settled-by-133 : (bytes : List ℕ) (place : ℕ) (seen : Seen) → place + 133 ≤ length bytes
+    → isSettled (readAt bytes place seen) ≡ true
 unfolding readAt
-settled-by-133 bytes place begun enough =
+settled-by-133 bytes place seen enough =
     by-test Settled (eqb left 0) (λ none. absurd (omega (arith, eqb-true left 0 none))) (λ _.
-    by-test Settled (not (isTag tag)) (λ _. refl) (λ _.
+    by-test Settled (isUnknown tag) (λ _. refl) (λ _.
     by-test Settled (ltb left 3) (λ short. absurd (omega (arith, ltb-true left 3 short))) (λ _.
     by-test Settled (not (lengthFits tag size)) (λ _. refl) (λ fits.
     by-test Settled (ltb left (3 + size)) (λ short.
@@ -190,8 +202,8 @@ settled-by-133 bytes place begun enough =
       ltb-true left (3 + size) short,
       size-at-most tag size (not-false (lengthFits tag size) fits),
     ))) (λ _.
-    by-test Settled (Bool·beq begun (eqb tag 1)) (λ _. refl) (λ _.
-    by-test Settled (eqb (valueRefusal field) 0) (λ _. refl) (λ _. not-5 field)))))))
+    by-test Settled (not (isDue tag seen)) (λ _. refl) (λ _.
+    by-test Settled (eqb (valueRefusal cardBlocks field) 0) (λ _. refl) (λ _. not-5 field)))))))
   where
     Settled : Reading → Type 0
     Settled reading = isSettled reading ≡ true
@@ -199,8 +211,8 @@ settled-by-133 bytes place begun enough =
     left : ℕ
     left = bytesLeft bytes place
 
-    tag : ℕ
-    tag = byteAt bytes place
+    tag : Tag
+    tag = tagAt bytes place
 
     size : ℕ
     size = wordAt bytes (place + 1)
@@ -208,5 +220,5 @@ settled-by-133 bytes place begun enough =
     field : Field
     field = fieldAt bytes tag (place + 3) size
 
-    not-5 : (other : Field) → not (eqb (valueRefusal other) 5) ≡ true
-    not-5 = by-refusal (λ number. not (eqb number 5) ≡ true) refl refl refl refl
+    not-5 : (other : Field) → not (eqb (valueRefusal cardBlocks other) 5) ≡ true
+    not-5 = by-refusal (λ number. not (eqb number 5) ≡ true) refl refl refl refl cardBlocks

@@ -2,7 +2,7 @@
 -- counted from there (`dropped-bytes`, `shifted-reading`), and so are the words of a host write
 -- (`dropped-words`, `shifted-words`). Assumes nothing.
 use mathlib.Core.Path.{_≡_, refl, sym}
-use mathlib.Core.Bool.{Bool, not, Bool·beq}
+use mathlib.Core.Bool.{not}
 use mathlib.Core.List.{List, _++_}
 use Prim.Native.Nat.{ℕ, zero, suc, _+_}
 use native.Mathlib.Nat.{add-assoc}
@@ -11,32 +11,49 @@ use lib.Dec.{eqb, ltb}
 use lib.ListN.{length, drop, length-drop}
 use lib.Seq.{getD-drop, drop-append-seam}
 use Rattle.rules.proofs.Choices.{choice-under}
+use Rattle.card.specs.Memory.{cardBlocks}
+use Rattle.recording.specs.declared.tag.Tag.{Tag}
+use Rattle.recording.specs.declared.tag.Tag.the-variants as tags
 use Rattle.recording.specs.declared.field.Field.{Field}
+use Rattle.recording.specs.declared.seen.Seen.{Seen}
 use Rattle.recording.specs.declared.field.Field.the-variants.{
   Setup,
   Word,
   Silence,
-  QueueRead,
+  ReadQueue,
   HostWrite,
-  Table,
-  Flags,
+  MoveTable,
+  SetFlags,
 }
 use Rattle.recording.specs.declared.reading.Reading.{Reading}
 use Rattle.recording.specs.Bytes.{bytesLeft, byteAt, wordAt, timeAt, wordsAt}
-use Rattle.recording.specs.Field.{isTag, lengthFits, fieldAt, valueRefusal}
+use Rattle.recording.specs.Tag.{tagAt, isUnknown, lengthFits}
+use Rattle.recording.specs.Field.{fieldAt, valueRefusal}
+use Rattle.recording.specs.Seen.{isDue, seenAfter}
 use Rattle.recording.specs.Reading.{readAt}
 use Rattle.recording.specs.AsCoded.Pieces.{shiftedField, shifted}
 
 -- the shift is seen in no refusal
 refusal-of-shifted : (start : ℕ) (field : Field)
-    → valueRefusal (shiftedField start field) ≡ valueRefusal field
+    → valueRefusal cardBlocks (shiftedField start field) ≡ valueRefusal cardBlocks field
 refusal-of-shifted start (Setup station table flags) = refl
 refusal-of-shifted start (Word marks value time) = refl
 refusal-of-shifted start (Silence line time) = refl
-refusal-of-shifted start QueueRead = refl
+refusal-of-shifted start ReadQueue = refl
 refusal-of-shifted start (HostWrite address first count) = refl
-refusal-of-shifted start (Table table) = refl
-refusal-of-shifted start (Flags flags) = refl
+refusal-of-shifted start (MoveTable table) = refl
+refusal-of-shifted start (SetFlags flags) = refl
+
+-- nor in what the reader has seen
+pub seen-of-shifted : (start : ℕ) (field : Field) (seen : Seen)
+    → seenAfter (shiftedField start field) seen ≡ seenAfter field seen
+seen-of-shifted start (Setup station table flags) seen = refl
+seen-of-shifted start (Word marks value time) seen = refl
+seen-of-shifted start (Silence line time) seen = refl
+seen-of-shifted start ReadQueue seen = refl
+seen-of-shifted start (HostWrite address first count) seen = refl
+seen-of-shifted start (MoveTable table) seen = refl
+seen-of-shifted start (SetFlags flags) seen = refl
 
 module _ (start : ℕ) (bytes : List ℕ) where
   -- ---- numbers
@@ -61,43 +78,38 @@ module _ (start : ℕ) (bytes : List ℕ) where
 
   -- ---- fields and readings
 
-  field-of-drop : (tag value size : ℕ)
+  field-of-drop : (tag : Tag) (value size : ℕ)
       → fieldAt bytes tag (start + value) size
       ≡ shiftedField start (fieldAt (drop start bytes) tag value size)
   unfolding fieldAt
-  field-of-drop tag value size =
-      choice-under shift (eqb tag 1)
-      (rw (
-        further 1,
-        further 2,
+  field-of-drop tags.Setup value size =
+      rw (
+        add-assoc start value 1,
+        add-assoc start value 2,
         byte-of-drop value,
         byte-of-drop (value + 1),
         byte-of-drop (value + 2),
-      ))
-      (choice-under shift (eqb tag 2)
-      (rw (
-        further 1,
-        further 3,
+      )
+  field-of-drop tags.Word value size =
+      rw (
+        add-assoc start value 1,
+        add-assoc start value 3,
         byte-of-drop value,
         word-of-drop (value + 1),
         time-of-drop (value + 3),
-      ))
-      (choice-under shift (eqb tag 3)
-      (rw (further 1, byte-of-drop value, time-of-drop (value + 1)))
-      (choice-under shift (eqb tag 4) refl
-      (choice-under shift (eqb tag 5) (rw (word-of-drop value, further 2))
-      (choice-under shift (eqb tag 6) (rw (byte-of-drop value)) (rw (byte-of-drop value)))))))
-    where
-      shift : Field → Field
-      shift = shiftedField start
+      )
+  field-of-drop tags.Silence value size =
+      rw (add-assoc start value 1, byte-of-drop value, time-of-drop (value + 1))
+  field-of-drop tags.ReadQueue value size = refl
+  field-of-drop tags.HostWrite value size = rw (word-of-drop value, add-assoc start value 2)
+  field-of-drop tags.MoveTable value size = rw (byte-of-drop value)
+  field-of-drop tags.SetFlags value size = rw (byte-of-drop value)
+  field-of-drop tags.Unknown value size = refl
 
-      further : (more : ℕ) → start + value + more ≡ start + (value + more)
-      further = add-assoc start value
-
-  pub dropped-bytes : (place : ℕ) (begun : Bool)
-      → readAt bytes (start + place) begun ≡ shifted start (readAt (drop start bytes) place begun)
+  pub dropped-bytes : (place : ℕ) (seen : Seen)
+      → readAt bytes (start + place) seen ≡ shifted start (readAt (drop start bytes) place seen)
   unfolding readAt
-  dropped-bytes place begun =
+  dropped-bytes place seen =
       rw (
         same-left,
         further 1,
@@ -108,12 +120,12 @@ module _ (start : ℕ) (bytes : List ℕ) where
         refusal-of-shifted start field,
       )
       (choice-under shift (eqb left 0) refl
-      (choice-under shift (not (isTag tag)) refl
+      (choice-under shift (isUnknown tag) refl
       (choice-under shift (ltb left 3) refl
       (choice-under shift (not (lengthFits tag size)) refl
       (choice-under shift (ltb left (3 + size)) refl
-      (choice-under shift (Bool·beq begun (eqb tag 1)) refl
-      (choice-under shift (eqb (valueRefusal field) 0)
+      (choice-under shift (not (isDue tag seen)) refl
+      (choice-under shift (eqb (valueRefusal cardBlocks field) 0)
       (rw (add-assoc start (place + 3) size)) refl)))))))
     where
       shift : Reading → Reading
@@ -122,8 +134,8 @@ module _ (start : ℕ) (bytes : List ℕ) where
       left : ℕ
       left = bytesLeft (drop start bytes) place
 
-      tag : ℕ
-      tag = byteAt (drop start bytes) place
+      tag : Tag
+      tag = tagAt (drop start bytes) place
 
       size : ℕ
       size = wordAt (drop start bytes) (place + 1)
@@ -146,9 +158,9 @@ module _ (front back : List ℕ) where
       rw (drop-append-seam front back) at
       (dropped-words (length front) (front ++ back) first count)
 
-  pub shifted-reading : (place : ℕ) (begun : Bool)
-      → readAt (front ++ back) (length front + place) begun
-      ≡ shifted (length front) (readAt back place begun)
-  shifted-reading place begun =
+  pub shifted-reading : (place : ℕ) (seen : Seen)
+      → readAt (front ++ back) (length front + place) seen
+      ≡ shifted (length front) (readAt back place seen)
+  shifted-reading place seen =
       rw (drop-append-seam front back) at
-      (dropped-bytes (length front) (front ++ back) place begun)
+      (dropped-bytes (length front) (front ++ back) place seen)

@@ -2,12 +2,12 @@
 -- (`taken-words-copied`); bytes that come behind do not change them (`more-bytes-same-words`).
 -- Assumes nothing.
 use mathlib.Core.Path.{_≡_}
-use mathlib.Core.Bool.{Bool}
 use mathlib.Core.List.{List, _++_}
 use Prim.Native.Nat.{ℕ, _*_, _≤_}
 use native.Mathlib.Omega.{arith}
 use lib.ListN.{length, take}
 use Rattle.recording.specs.declared.field.Field.the-variants.{HostWrite}
+use Rattle.recording.specs.declared.seen.Seen.{Seen}
 use Rattle.recording.specs.declared.reading.Reading.the-variants.{Taken}
 use Rattle.recording.specs.Bytes.{bytesLeft, wordsAt, withWords}
 use Rattle.recording.specs.Reading.{readAt}
@@ -16,13 +16,13 @@ use Rattle.recording.proofs.TakenLaws.{Within, taken-within}
 use Rattle.recording.proofs.InOrder.{WriteInOrder, taken-in-order}
 use Rattle.recording.proofs.MoreBytes.{words-of-more}
 
-module _ (bytes : List ℕ) (place : ℕ) (begun : Bool) {address first count next : ℕ}
-    (taken : readAt bytes place begun ≡ Taken (HostWrite address first count) next) where
+module _ (bytes : List ℕ) (place : ℕ) (seen : Seen) {address first count next : ℕ}
+    (taken : readAt bytes place seen ≡ Taken (HostWrite address first count) next) where
   write : WriteInOrder place next address first count
-  write = taken-in-order bytes place begun taken
+  write = taken-in-order bytes place seen taken
 
   field : Within bytes place next
-  field = taken-within bytes place begun taken
+  field = taken-within bytes place seen taken
 
   pub taken-words-there : 2 * count ≤ bytesLeft bytes first
   taken-words-there = omega (arith, write .to-the-end, field .ends-inside)

@@ -1,20 +1,25 @@
-// The fields of a recording: document 01's table of tags. A field is a tag of one byte, a length of
-// two and a value of that length.
+// The fields of a recording: what stands in the value of each tag. A field is a tag of one byte, a
+// length of two and a value of that length.
 ghost use mathlib.Core.Path.{_≡_};
 ghost use Prim.Native.Nat.{_+_, _≤_};
 ghost use lib.ListN.{length};
 ghost use Rattle.recording.specs.Field.{
-  isTag,
-  lengthFits,
   setupField,
   wordField,
   silenceField,
   writeField,
   fieldAt,
   valueRefusal,
+  isSetup,
   ValueThere,
 };
 use crate::bytes;
+use crate::tag::Tag;
+use bus::limits::ALL_FLAGS;
+use bus::limits::ALL_MARKS;
+use bus::limits::LAST_LINE;
+use bus::limits::LAST_STATION;
+use card::host;
 
 // What a field holds, in the order of the tags 01 to 07.
 pub enum Field {
@@ -33,56 +38,53 @@ pub enum Field {
         line: u8,
         time: u32,
     },
-    QueueRead,
+    ReadQueue,
     // `count` words stand in the input from `first` on, two bytes each, high byte first
     HostWrite {
         address: u16,
         first: usize,
         count: usize,
     },
-    Table {
+    MoveTable {
         table: u8,
     },
-    Flags {
+    SetFlags {
         flags: u8,
     },
 }
 
-// ---- the table of tags
-
-pub(crate) fn is_tag(tag: u8) -> bool
-    ensures { λ known. ⌜ known ≡ isTag tag ⌝ }
-{
-    (1 <= tag) & (tag <= 7)
-}
-
-// Whether a length is the tag's.
-pub(crate) fn length_fits(tag: u8, size: usize) -> bool
-    ensures { λ fits. ⌜ fits ≡ lengthFits tag size ⌝ }
-{
-    if tag == 1 {
-        return size == 3;
-    }
-    if tag == 2 {
-        return size == 7;
-    }
-    if tag == 3 {
-        return size == 5;
-    }
-    if tag == 4 {
-        return size == 0;
-    }
-    if tag == 5 {
-        return (4 <= size) & (size <= 130) & (size % 2 == 0);
-    }
-    size == 1
-}
-
 impl Field {
-    // Refusals 2, 3 and 8 by what the field holds, in that order, and 0 for none. One byte cannot
-    // spell a table block above 255 today; the test for 3 stands where document 01's order has it.
-    pub(crate) fn refusal(self) -> u8
-        ensures { λ number. ⌜ number ≡ valueRefusal self ⌝ }
+    pub(crate) fn is_setup(self) -> bool
+        ensures { λ setup. ⌜ setup ≡ isSetup self ⌝ }
+    {
+        match self {
+            Field::Setup {
+                station: _,
+                table: _,
+                flags: _,
+            } => true,
+            Field::Word {
+                marks: _,
+                value: _,
+                time: _,
+            } => false,
+            Field::Silence { line: _, time: _ } => false,
+            Field::ReadQueue => false,
+            Field::HostWrite {
+                address: _,
+                first: _,
+                count: _,
+            } => false,
+            Field::MoveTable { table: _ } => false,
+            Field::SetFlags { flags: _ } => false,
+        }
+    }
+
+    // Refusals 2, 3 and 8 by what the field holds, in that order, on a card of so many blocks, and 0
+    // for none. One byte cannot spell a table block above 255 today; the test for 3 stands where
+    // document 01's order has it.
+    pub(crate) fn refusal(self, blocks: u16) -> u8
+        ensures { λ number. ⌜ number ≡ valueRefusal blocks self ⌝ }
     {
         match self {
             Field::Setup {
@@ -90,13 +92,13 @@ impl Field {
                 table,
                 flags,
             } => {
-                if station > 30 {
+                if (station as u16) > LAST_STATION {
                     return 2;
                 }
-                if table > 255 {
+                if (table as u16) >= blocks {
                     return 3;
                 }
-                if flags > 63 {
+                if (flags as u16) > ALL_FLAGS {
                     return 8;
                 }
                 0
@@ -106,40 +108,36 @@ impl Field {
                 value: _,
                 time: _,
             } => {
-                if marks > 15 {
+                if marks > ALL_MARKS {
                     return 8;
                 }
                 0
             }
             Field::Silence { line, time: _ } => {
-                if line > 1 {
+                if line > LAST_LINE {
                     return 8;
                 }
                 0
             }
-            Field::QueueRead => 0,
+            Field::ReadQueue => 0,
             Field::HostWrite {
                 address,
                 first: _,
                 count,
             } => {
-                // so many fit on no card, and the sum below cannot go over the top
-                if count > 16384 {
-                    return 8;
-                }
-                if (address as usize) + count > 16384 {
+                if !host::is_write(blocks, address, count) {
                     return 8;
                 }
                 0
             }
-            Field::Table { table } => {
-                if table > 255 {
+            Field::MoveTable { table } => {
+                if (table as u16) >= blocks {
                     return 3;
                 }
                 0
             }
-            Field::Flags { flags } => {
-                if flags > 63 {
+            Field::SetFlags { flags } => {
+                if (flags as u16) > ALL_FLAGS {
                     return 8;
                 }
                 0
@@ -191,32 +189,24 @@ fn write_field(bytes: &[u8], value: usize, size: usize) -> Field
     }
 }
 
-// The field of a tag. Its value stands whole in the bytes, and has a length of the tag's.
-pub(crate) fn field_at(bytes: &[u8], tag: u8, value: usize, size: usize) -> Field
+// The field of a tag. Its value stands whole in the bytes, and has a length of the tag's, so that
+// the tag is known.
+pub(crate) fn field_at(bytes: &[u8], tag: Tag, value: usize, size: usize) -> Field
     requires { ⌜ ValueThere (now bytes) tag value size ⌝ }
     ensures { λ field. ⌜ field ≡ fieldAt (now (bytes .entry)) tag value size ⌝ }
 {
-    if tag == 1 {
-        return setup_field(bytes, value);
-    }
-    if tag == 2 {
-        return word_field(bytes, value);
-    }
-    if tag == 3 {
-        return silence_field(bytes, value);
-    }
-    if tag == 4 {
-        return Field::QueueRead;
-    }
-    if tag == 5 {
-        return write_field(bytes, value, size);
-    }
-    if tag == 6 {
-        return Field::Table {
+    match tag {
+        Tag::Setup => setup_field(bytes, value),
+        Tag::Word => word_field(bytes, value),
+        Tag::Silence => silence_field(bytes, value),
+        Tag::ReadQueue => Field::ReadQueue,
+        Tag::HostWrite => write_field(bytes, value, size),
+        Tag::MoveTable => Field::MoveTable {
             table: bytes[value],
-        };
-    }
-    Field::Flags {
-        flags: bytes[value],
+        },
+        Tag::SetFlags => Field::SetFlags {
+            flags: bytes[value],
+        },
+        Tag::Unknown => Field::ReadQueue,
     }
 }

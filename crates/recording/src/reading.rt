@@ -4,6 +4,9 @@ ghost use Rattle.recording.specs.Reading.{readAt};
 use crate::bytes;
 use crate::field;
 use crate::field::Field;
+use crate::seen::Seen;
+use crate::tag;
+use card::place::CARD_BLOCKS;
 
 // What is found at a place of the input.
 pub enum Reading {
@@ -15,16 +18,16 @@ pub enum Reading {
     Refused { number: u8, place: usize },
 }
 
-// The field whose tag stands at a place. `begun`: a setup has been read.
-pub fn read_field(bytes: &[u8], place: usize, begun: bool) -> Reading
-    ensures { λ reading. ⌜ reading ≡ readAt (now (bytes .entry)) place begun ⌝ }
+// The field whose tag stands at a place, by what has been seen before.
+pub fn read_field(bytes: &[u8], place: usize, seen: Seen) -> Reading
+    ensures { λ reading. ⌜ reading ≡ readAt (now (bytes .entry)) place seen ⌝ }
 {
     let left = bytes::bytes_left(bytes, place);
     if left == 0 {
         return Reading::End;
     }
-    let tag = bytes[place];
-    if !field::is_tag(tag) {
+    let tag = tag::tag_of(bytes[place]);
+    if tag.is_unknown() {
         return Reading::Refused {
             number: 6,
             place: place,
@@ -37,7 +40,7 @@ pub fn read_field(bytes: &[u8], place: usize, begun: bool) -> Reading
         };
     }
     let size = bytes::word_at(bytes, place + 1) as usize;
-    if !field::length_fits(tag, size) {
+    if !tag.length_fits(size) {
         return Reading::Refused {
             number: 7,
             place: place,
@@ -49,15 +52,14 @@ pub fn read_field(bytes: &[u8], place: usize, begun: bool) -> Reading
             place: place,
         };
     }
-    // a setup comes first, and once
-    if begun == (tag == 1) {
+    if !seen.is_due(tag) {
         return Reading::Refused {
             number: 9,
             place: place,
         };
     }
     let field = field::field_at(bytes, tag, place + 3, size);
-    let number = field.refusal();
+    let number = field.refusal(CARD_BLOCKS);
     if number != 0 {
         return Reading::Refused {
             number: number,

@@ -7,6 +7,7 @@ ghost use lib.Seq.{sets};
 ghost use Rattle.recording.specs.Bytes.{bytesLeft, wordsAt, withWords};
 ghost use Rattle.recording.specs.AsCoded.Found.{wordFound};
 use crate::bytes;
+use crate::tag;
 
 // What is found where a word field with certain marks is looked for.
 pub enum Found {
@@ -27,7 +28,7 @@ pub fn find_word(bytes: &[u8], place: usize, marks: u8) -> Found
     let high = bytes[place + 1];
     let low = bytes[place + 2];
     let found = bytes[place + 3];
-    let starts = (tag == 2) & (high == 0) & (low == 7) & (found == marks);
+    let starts = (tag == tag::WORD_TAG) & (high == 0) & (low == 7) & (found == marks);
     if !starts {
         return Found::Nothing;
     }

@@ -5,13 +5,15 @@ use mathlib.Core.List.{List, [], _∷_, _++_}
 use Prim.Native.Nat.{ℕ}
 use native.Mathlib.Omega.{arith}
 use lib.ListN.{getD}
-use Rattle.recording.specs.Field.{lengthFits, fieldAt}
+use Rattle.recording.specs.Tag.{tagOf, lengthFits}
+use Rattle.recording.specs.Field.{fieldAt}
 use Rattle.recording.specs.Reading.{readAt}
+use Rattle.recording.specs.Value.{setup, readQueue, valuedAt, fieldOf}
+use Rattle.recording.specs.Accepted.{no-more, a-field, seenAfterAll}
 use Rattle.lines.specs.Digits.{hexWord}
 use Rattle.lines.specs.Lines.{queueLine, endLine, refusalLine}
-use Rattle.terminal.specs.Event.{queueRead}
 use Rattle.runs.proofs.Telling.{runs}
-use Rattle.tray.specs.Happening.{setup, event, happeningOf, happened}
+use Rattle.tray.specs.Happening.{happeningOf, happenings, happened}
 use Rattle.tray.specs.Run.{
   Tray,
   trayAtStart,
@@ -22,7 +24,6 @@ use Rattle.tray.specs.Run.{
   wholeBy,
   wholeFrom,
 }
-use Rattle.tray.specs.Accepted.{no-more, a-field, begunAfter}
 use Rattle.tray.specs.Answered.{
   toldLines,
   toldCard,
@@ -41,9 +42,9 @@ read-bytes = 0x04 ∷ 0x00 ∷ 0x00 ∷ []
 
 -- to unfold `answers` is to unfold a tray run, and what an answer says of it
 unfoldable answers : ℕ
-unfolding runs readAt lengthFits fieldAt happeningOf happened trayAtStart lastLine taking takingLine
-    wholeOf wholeBy wholeFrom begunAfter toldLines toldCard trayAfter
-    hexWord queueLine
+unfolding runs readAt tagOf lengthFits fieldAt valuedAt fieldOf happeningOf happenings happened
+    trayAtStart lastLine taking takingLine wholeOf wholeBy wholeFrom seenAfterAll toldLines
+    toldCard trayAfter hexWord queueLine
 answers = 0
 
 -- it prints the line of the queue read, and END 2
@@ -53,7 +54,7 @@ accepted-answer =
     record {
       front = setup-bytes ++ read-bytes;
       left = [];
-      told = setup 5 1 0 ∷ event queueRead ∷ [];
+      fields = setup 5 1 0 ∷ readQueue ∷ [];
       line = endLine 2;
       parts = refl;
       takes = a-field refl (a-field refl no-more);
@@ -68,7 +69,7 @@ refused-answer =
     record {
       front = setup-bytes;
       left = setup-bytes;
-      told = setup 5 1 0 ∷ [];
+      fields = setup 5 1 0 ∷ [];
       line = refusalLine 9 6;
       parts = refl;
       takes = a-field refl no-more;

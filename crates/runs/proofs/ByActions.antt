@@ -2,7 +2,6 @@
 -- alike, and what is refused over memory of another length and from a state that is not fit; with
 -- less asked the theorem is false. Assumes nothing.
 use mathlib.Core.Path.{_≡_, refl}
-use mathlib.Core.Bool.{true}
 use mathlib.Core.List.{List, [], _∷_, _++_}
 use Prim.Native.Nat.{ℕ, zero, suc}
 use native.Mathlib.Omega.{arith}
@@ -13,7 +12,9 @@ use Rattle.terminal.specs.State.{card, coreAtSetup}
 use Rattle.actions.specs.Actions.{After}
 use Rattle.recording.specs.declared.reading.Reading.{Reading}
 use Rattle.recording.specs.declared.reading.Reading.the-variants.{Taken, End, Refused}
-use Rattle.recording.specs.Field.{lengthFits, fieldAt}
+use Rattle.recording.specs.Tag.{tagOf, lengthFits}
+use Rattle.recording.specs.Field.{fieldAt}
+use Rattle.recording.specs.Seen.{setupSeen}
 use Rattle.recording.specs.Reading.{readAt}
 use Rattle.runs.proofs.Telling.{runs}
 use Rattle.tray.specs.Run.{Tray, trayOver, trayAtStart, Whole, wholeFrom}
@@ -54,14 +55,14 @@ recording = setup ++ behind
 abbrev numbersOf : Reading → (Tray → List ℕ → List ℕ) → Tray → List ℕ → List ℕ
 numbersOf (Taken field next) rest old bytes =
     let left : After = actionOf bytes field (old .card) in
-    left .refusal ∷ rest (trayWith (left .card) next old) (drop next bytes)
+    left .refusal ∷ rest (trayWith field (left .card) next old) (drop next bytes)
 numbersOf End rest old bytes = []
 numbersOf (Refused number place) rest old bytes = []
 
 -- of so many fields at the most
 unfoldable numbers : ℕ → Tray → List ℕ → List ℕ
 numbers zero old bytes = []
-numbers (suc most) old bytes = numbersOf (readAt bytes 0 (old .begun)) (numbers most) old bytes
+numbers (suc most) old bytes = numbersOf (readAt bytes 0 (old .seen)) (numbers most) old bytes
 
 abbrev AllZero : List ℕ → Type 0
 AllZero [] = Unit {0}
@@ -79,7 +80,8 @@ none-refused (refuses sound is alike) (suc most) = rw is tt
 
 -- to unfold `all` is to unfold the recordings, the reader and the actions
 unfoldable all : ℕ
-unfolding runs setup behind numbers actionOf trayOver trayAtStart readAt lengthFits fieldAt
+unfolding runs setup behind numbers actionOf trayOver trayAtStart readAt tagOf lengthFits
+    fieldAt
 all = 0
 
 -- ---- document 01's recording
@@ -106,7 +108,7 @@ numberOf (Refused number place) = number
 
 abbrev bothNumbers : List ℕ → Tray → List ℕ
 bothNumbers bytes old =
-    numberOf (readAt bytes 0 (old .begun))
+    numberOf (readAt bytes 0 (old .seen))
     ∷ actionOf bytes (firstField bytes) (old .card) .refusal
     ∷ []
 
@@ -119,7 +121,7 @@ station-31-gets-2-from-both = refl
 abbrev stationed : ℕ → Tray
 stationed station =
     record {
-      begun = true;
+      seen = setupSeen;
       card = card (coreAtSetup station (theBlock 1) 0) emptyQueue (replicate cardWords 0);
       fields = 1;
       offset = 6;

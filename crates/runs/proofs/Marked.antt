@@ -5,8 +5,10 @@ use mathlib.Core.List.{map}
 use Prim.Native.Nat.{ℕ}
 use lib.ListN.{getD}
 use Rattle.terminal.specs.State.{Card}
-use Rattle.recording.specs.Field.{lengthFits, fieldAt}
+use Rattle.recording.specs.Tag.{tagOf, lengthFits}
+use Rattle.recording.specs.Field.{fieldAt}
 use Rattle.recording.specs.Reading.{readAt}
+use Rattle.recording.specs.Value.{valuedAt}
 use Rattle.lines.specs.Digits.{hexDigit, hexWord, decimalBy, decimal}
 use Rattle.lines.specs.Lines.{eachWord, statusLine, queueLine, endLine, refusalLine}
 use Rattle.runs.proofs.Telling.{runs}
@@ -33,8 +35,8 @@ found wanted =
 
 -- to unfold `all` is to unfold a tray run, from bytes to text
 unfoldable all : ℕ
-unfolding runs readAt lengthFits fieldAt happeningOf happened trayAtStart lastLine taking takingLine
-    wholeOf wholeBy wholeFrom hexDigit hexWord decimalBy decimal eachWord
+unfolding runs readAt tagOf lengthFits fieldAt valuedAt happeningOf happened trayAtStart lastLine
+    taking takingLine wholeOf wholeBy wholeFrom hexDigit hexWord decimalBy decimal eachWord
     statusLine queueLine endLine refusalLine marked
 all = 0
 

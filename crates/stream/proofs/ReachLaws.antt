@@ -3,13 +3,14 @@
 -- failed, whatever was there. Assumes nothing.
 use mathlib.Core.Path.{_≡_, refl, sym, _∙_}
 use mathlib.Core.Logic.{_≢_}
-use mathlib.Core.Bool.{Bool, true, false}
+use mathlib.Core.Bool.{true, false}
 use mathlib.Core.List.{List, []}
 use Prim.Native.Nat.{ℕ, _<_}
 use native.Mathlib.Omega.{arith}
 use lib.ListN.{replicate}
 use lib.Seq.{drop-nil}
 use Rattle.rules.proofs.Clash.{clash}
+use Rattle.recording.specs.declared.seen.Seen.{Seen}
 use Rattle.recording.specs.declared.reading.Reading.{Reading}
 use Rattle.recording.specs.declared.reading.Reading.the-variants.{Taken, End, Refused}
 use Rattle.recording.specs.Reading.{readAt}
@@ -41,9 +42,9 @@ module _ (start : Tray) where
   nothing-made = refl
 
   -- they hold no field
-  nothing-read : (place : ℕ) (begun : Bool) → readAt [] place begun ≡ End
+  nothing-read : (place : ℕ) (seen : Seen) → readAt [] place seen ≡ End
   unfolding readAt
-  nothing-read place begun = let none : bytesLeft [] place ≡ 0 = omega arith in rw none
+  nothing-read place seen = let none : bytesLeft [] place ≡ 0 = omega arith in rw none
 
   -- no bytes, which may not be the last, are no end of a run
   record Idle (new : Passed) : Type 0 where
@@ -62,12 +63,12 @@ module _ (start : Tray) where
       (record { untouched = refl; not-over = going-over })
     where
       go : (old : Passed) → Idle old → (reading : Reading)
-          → readAt [] (old .at) (old .tray .begun) ≡ reading → Idle (passing reading [] false old)
+          → readAt [] (old .at) (old .tray .seen) ≡ reading → Idle (passing reading [] false old)
       go old so-far (Taken field next) is =
-          absurd (clash (cc (nothing-read (old .at) (old .tray .begun))))
+          absurd (clash (cc (nothing-read (old .at) (old .tray .seen))))
       go old so-far End is = record { untouched = so-far .untouched; not-over = hungry-over }
       go old so-far (Refused number place) is =
-          absurd (clash (cc (nothing-read (old .at) (old .tray .begun))))
+          absurd (clash (cc (nothing-read (old .at) (old .tray .seen))))
 
   -- it needs bytes
   waits : windowRun start [] false room .stop ≡ Hungry

@@ -12,6 +12,7 @@ use lib.ListN.{length}
 use borrow.Author.Tests.{eqb-true}
 use Rattle.rules.proofs.Clash.{clash}
 use Rattle.rules.proofs.Halves.{second-of-both}
+use Rattle.recording.specs.declared.seen.Seen.{Seen}
 use Rattle.recording.specs.declared.reading.Reading.{Reading}
 use Rattle.recording.specs.declared.reading.Reading.the-variants.{Taken, End, Refused}
 use Rattle.recording.specs.Reading.{readAt}
@@ -52,14 +53,14 @@ hungry-over same = clash (cc)
 -- ---- a reading that waits for bytes
 
 -- it waits at the end of the bytes or at refusal 5, which no 133 bytes leave
-few-left : (window : List ℕ) (place : ℕ) (begun : Bool)
-    → isSettled (readAt window place begun) ≡ false → length window < place + 133
-few-left window place begun waits =
+few-left : (window : List ℕ) (place : ℕ) (seen : Seen)
+    → isSettled (readAt window place seen) ≡ false → length window < place + 133
+few-left window place seen waits =
     elim (decLt (length window) (place + 133)) [
       | yes few ↦ few
       | no many ↦
-          let settled : isSettled (readAt window place begun) ≡ true =
-          settled-by-133 window place begun (omega arith) in
+          let settled : isSettled (readAt window place seen) ≡ true =
+          settled-by-133 window place seen (omega arith) in
           absurd (clash (cc))
     ]
 
@@ -100,13 +101,13 @@ hungry-few window last old out =
     Few new = new .stop ≡ Hungry → length window < new .at + 133
 
     go : (old′ : Passed) (reading : Reading)
-        → readAt window (old′ .at) (old′ .tray .begun) ≡ reading
+        → readAt window (old′ .at) (old′ .tray .seen) ≡ reading
         → Few (passing reading window last old′)
     go old′ (Taken field next) is same = absurd (going-hungry same)
-    go old′ End is same = few-left window (old′ .at) (old′ .tray .begun) (ap isSettled is)
+    go old′ End is same = few-left window (old′ .at) (old′ .tray .seen) (ap isSettled is)
     go old′ (Refused number named) is same =
         let five : eqb number 5 ≡ true =
         number-waits number
-        (refused-names-place window (old′ .at) (old′ .tray .begun) is .of-the-reader)
+        (refused-names-place window (old′ .at) (old′ .tray .seen) is .of-the-reader)
         (stops-waiting number last old′ same) in
-        few-left window (old′ .at) (old′ .tray .begun) (ap isSettled is ∙ rw five)
+        few-left window (old′ .at) (old′ .tray .seen) (ap isSettled is ∙ rw five)

@@ -68,18 +68,18 @@ whole-run-prints new came = by-end true refl came where
 
 -- a call that has read no setup leaves all as it was
 after-call : {start new : Tray} (window : List ℕ) (ended : Bool) (old : Tray) (out : List ℕ)
-    → new ≡ windowRun old window ended out .tray → (old .begun ≡ false → old ≡ start)
-    → new .begun ≡ false → new ≡ start
+    → new ≡ windowRun old window ended out .tray → (old .seen .setup ≡ false → old ≡ start)
+    → new .seen .setup ≡ false → new ≡ start
 after-call window ended old out is-new before untold =
-    let left : windowRun old window ended out .tray .begun ≡ false =
-    ap (λ (tray : Tray). tray .begun) (sym is-new) ∙ untold in
+    let left : windowRun old window ended out .tray .seen .setup ≡ false =
+    ap (λ (tray : Tray). tray .seen .setup) (sym is-new) ∙ untold in
     let same : windowRun old window ended out .tray ≡ old =
     unread-untouched window ended old out left in
-    is-new ∙ same ∙ before (ap (λ (tray : Tray). tray .begun) (sym same) ∙ left)
+    is-new ∙ same ∙ before (ap (λ (tray : Tray). tray .seen .setup) (sym same) ∙ left)
 
 -- where no setup has been read, all is as it was: memory, queue, and the count of fields
 streamed-untouched : {start : Tray} {ended : Bool} {input text : List ℕ} {new : Tray}
-    {window : List ℕ} → Streamed start ended input text new window → new .begun ≡ false
+    {window : List ℕ} → Streamed start ended input text new window → new .seen .setup ≡ false
     → new ≡ start
 streamed-untouched begins untold = refl
 streamed-untouched (reads piece so-far) untold = streamed-untouched so-far untold
@@ -87,20 +87,20 @@ streamed-untouched (ends so-far) untold = streamed-untouched so-far untold
 streamed-untouched (calls {ended = ended} {old = old} {window = window} out so-far other) untold =
     after-call window ended old out refl (λ sooner. streamed-untouched so-far sooner) untold
 
-last-untouched : {start new : Tray} → LastCall start new → new .begun ≡ false → new ≡ start
+last-untouched : {start new : Tray} → LastCall start new → new .seen .setup ≡ false → new ≡ start
 last-untouched last untold =
     after-call (last .before .window) (last .before .ended) (last .before .tray) (last .out)
     (last .is-new) (streamed-untouched (progressed-streamed (last .progressed))) untold
 
 pub unread-is-untouched : {start new : Tray} {told : Bool} → Came start new told
-    → new .begun ≡ false → new ≡ start
+    → new .seen .setup ≡ false → new ≡ start
 unread-is-untouched (finished last _) untold = last-untouched last untold
 unread-is-untouched (broken-off last _) untold = last-untouched last untold
 unread-is-untouched (unread last _) untold = last-untouched last untold
 unread-is-untouched (spent far so-far _ is-new) untold =
     is-new
     ∙ streamed-untouched (progressed-streamed so-far)
-    (ap (λ (tray : Tray). tray .begun) (sym is-new) ∙ untold)
+    (ap (λ (tray : Tray). tray .seen .setup) (sym is-new) ∙ untold)
 
 -- ---- where no turn is left
 

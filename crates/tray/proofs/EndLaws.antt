@@ -2,7 +2,7 @@
 -- behind the last, and where it is full it has taken a field. Assumes nothing.
 use mathlib.Core.Path.{_≡_, refl, sym, subst, _∙_}
 use mathlib.Core.Logic.{_≢_}
-use mathlib.Core.Bool.{Bool, true, false, cond, not, _&&_}
+use mathlib.Core.Bool.{Bool, true, false, true≢false, cond, not, _&&_}
 use mathlib.Core.List.{List, []}
 use Prim.Native.Nat.{ℕ, zero, suc, _-_, _≤_, _<_}
 use native.Mathlib.Decide.{decLt}
@@ -14,7 +14,7 @@ use Rattle.rules.proofs.Clash.{clash}
 use Rattle.recording.specs.declared.reading.Reading.{Reading}
 use Rattle.recording.specs.declared.reading.Reading.the-variants.{Taken, End, Refused}
 use Rattle.recording.specs.Reading.{readAt}
-use Rattle.recording.proofs.TakenLaws.{taken-within}
+use Rattle.recording.proofs.TakenLaws.{taken-within, setup-seen-after}
 use Rattle.lines.specs.Written.{put, lineRoom, lineWritten}
 use Rattle.lines.proofs.WrittenLaws.{length-written}
 use Rattle.tray.specs.declared.window.Stop.{Stop}
@@ -86,7 +86,7 @@ module _ (window : List ℕ) (last : Bool) where
   pub by-turn : (Claim : Passed → Type 0) (old : Passed)
       → (length (old .out) - old .put < lineRoom
       → Claim (stopping Full old))
-      → ((reading : Reading) → readAt window (old .at) (old .tray .begun) ≡ reading
+      → ((reading : Reading) → readAt window (old .at) (old .tray .seen) ≡ reading
       → lineRoom ≤ length (old .out) - old .put → Claim (passing reading window last old))
       → Claim (turn window last old)
   unfolding turn
@@ -96,7 +96,7 @@ module _ (window : List ℕ) (last : Bool) where
     go true is = rw is (full (ltb-true (length (old .out) - old .put) lineRoom is))
     go false is =
         rw is
-        (other (readAt window (old .at) (old .tray .begun)) refl
+        (other (readAt window (old .at) (old .tray .seen)) refl
         (ltb-false (length (old .out) - old .put) lineRoom is))
 
   -- a turn does not look at why the one before stopped
@@ -140,33 +140,35 @@ module _ (window : List ℕ) (last : Bool) where
       Within new = new .at ≤ length window
 
       go : (old′ : Passed) → Within old′ → (reading : Reading)
-          → readAt window (old′ .at) (old′ .tray .begun) ≡ reading
+          → readAt window (old′ .at) (old′ .tray .seen) ≡ reading
           → Within (passing reading window last old′)
       go old′ within (Taken field next) is =
-          taken-within window (old′ .at) (old′ .tray .begun) is .ends-inside
+          taken-within window (old′ .at) (old′ .tray .seen) is .ends-inside
       go old′ within End is = within
       go old′ within (Refused number place) is = within
 
   -- where no setup has been read, no field was taken: all is as it was
   pub unread-untouched : (old : Tray) (out : List ℕ)
-      → windowRun old window last out .tray .begun ≡ false
+      → windowRun old window last out .tray .seen .setup ≡ false
       → windowRun old window last out .tray ≡ old
   unfolding windowRun passing takes taking
   unread-untouched old out =
       turns-keep Untouched
       (λ old′ is so-far.
-      by-turn Untouched old′ (λ _. so-far) (λ reading is′ room. go old′ so-far reading))
+      by-turn Untouched old′ (λ _. so-far) (λ reading is′ room. go old′ so-far reading is′))
       mostTurns (record { tray = old; at = 0; put = 0; out = out; stop = Going }) (λ _. refl)
     where
       Untouched : Passed → Type 0
-      Untouched new = new .tray .begun ≡ false → new .tray ≡ old
+      Untouched new = new .tray .seen .setup ≡ false → new .tray ≡ old
 
       go : (old′ : Passed) → Untouched old′ → (reading : Reading)
+          → readAt window (old′ .at) (old′ .tray .seen) ≡ reading
           → Untouched (passing reading window last old′)
-      go old′ so-far (Taken field next) begun =
-          absurd (clash (cc))
-      go old′ so-far End begun = so-far begun
-      go old′ so-far (Refused number place) begun = so-far begun
+      go old′ so-far (Taken field next) is none =
+          absurd (true≢false
+          (sym (setup-seen-after window (old′ .at) (old′ .tray .seen) is) ∙ none))
+      go old′ so-far End is none = so-far none
+      go old′ so-far (Refused number place) is none = so-far none
 
   -- ---- how it stops
 
@@ -226,11 +228,11 @@ module _ (window : List ℕ) (last : Bool) where
       Stops : Stop → Type 0
       Stops stop = stop ≢ Going
 
-      go : (reading : Reading) → readAt window (old .at) (old .tray .begun) ≡ reading
+      go : (reading : Reading) → readAt window (old .at) (old .tray .seen) ≡ reading
           → passing reading window last old .stop ≡ Going
           → old .at < passing reading window last old .at
       go (Taken field next) is goes =
-          taken-within window (old .at) (old .tray .begun) is .moves-on
+          taken-within window (old .at) (old .tray .seen) is .moves-on
       go End is goes = absurd (stops-so Stops 0 old (λ _. hungry-going) over-going goes)
       go (Refused number place) is goes =
           absurd (stops-so Stops number old (λ _. hungry-going) over-going goes)
@@ -242,10 +244,10 @@ module _ (window : List ℕ) (last : Bool) where
       by-turn (λ (new : Passed). new .at ≤ length window) old (λ _. within)
       (λ reading is room. go reading is)
     where
-      go : (reading : Reading) → readAt window (old .at) (old .tray .begun) ≡ reading
+      go : (reading : Reading) → readAt window (old .at) (old .tray .seen) ≡ reading
           → passing reading window last old .at ≤ length window
       go (Taken field next) is =
-          taken-within window (old .at) (old .tray .begun) is .ends-inside
+          taken-within window (old .at) (old .tray .seen) is .ends-inside
       go End is = within
       go (Refused number place) is = within
 
@@ -354,11 +356,11 @@ module _ (window : List ℕ) (last : Bool) where
       })
       (λ reading is _. go reading is)
     where
-      go : (reading : Reading) → readAt window (old .at) (old .tray .begun) ≡ reading
+      go : (reading : Reading) → readAt window (old .at) (old .tray .seen) ≡ reading
           → Started size (passing reading window last old)
       go (Taken field next) is =
           let further : old .at < next =
-          taken-within window (old .at) (old .tray .begun) is .moves-on in
+          taken-within window (old .at) (old .tray .seen) is .moves-on in
           record {
             fresh = λ _ at-start. absurd (omega (arith, further, at-start));
             as-long =

@@ -41,6 +41,7 @@ use Rattle.terminal.proofs.SilentLaws.{words-are-silent}
 use Rattle.recording.specs.declared.field.Field.{Field}
 use Rattle.recording.specs.declared.field.Field.the-variants as field
 use Rattle.recording.specs.Bytes.{wordsAt, withWords}
+use Rattle.recording.specs.Value.{valuedAt}
 use Rattle.recording.proofs.WordsLaws.{front-of-copy}
 use Rattle.tray.specs.declared.field.Happened.{Happened}
 use Rattle.tray.specs.Happening.{happeningOf, happened}
@@ -55,7 +56,7 @@ module _ (told : Field) (window places ram : List ℕ) (held : Held) where
   before = cardOf held places ram
 
   abbrev comes : Shown
-  comes = happened (happeningOf window told) before
+  comes = happened (happeningOf (valuedAt window told)) before
 
   pub setup-comes : (station table flags : ℕ) (core : Core) (ring : Ring) (left : Happened)
       (places′ : List ℕ)
@@ -64,7 +65,7 @@ module _ (told : Field) (window places ram : List ℕ) (held : Held) where
       → core ≡ coreAtSetup station (theBlock table) flags
       → left ≡ quiet core ring
       → shown (cardOf (left .held) places′ ram) (left .answer) ≡ comes
-  unfolding happened happeningOf
+  unfolding happened happeningOf valuedAt
   setup-comes station table flags core ring left places′ is is-queue is-core is-left =
       rw (is, is-left, is-core, is-queue)
 
@@ -73,7 +74,7 @@ module _ (told : Field) (window places ram : List ℕ) (held : Held) where
       → heard ≡ wordOf marks value time
       → cardOf left places′ ram′ ≡ wordStep heard before .card
       → shown (cardOf left places′ ram′) (replied Silent) ≡ comes
-  unfolding happened happeningOf step
+  unfolding happened happeningOf valuedAt step
   word-comes marks value time heard left places′ ram′ is is-heard is-left =
       rw (is, is-left, ← is-heard, words-are-silent heard before)
 
@@ -82,14 +83,14 @@ module _ (told : Field) (window places ram : List ℕ) (held : Held) where
       → shown (cardOf (heard .held) places′ ram′) (replied (heard .reply))
       ≡ seen (silenceStep (eqb line 1) time before)
       → shown (cardOf (heard .held) places′ ram′) (replied (heard .reply)) ≡ comes
-  unfolding happened happeningOf step
+  unfolding happened happeningOf valuedAt step
   silence-comes line time heard places′ ram′ is is-heard = rw (is, is-heard)
 
   pub queue-read-comes : (taken : RingRead)
-      → told ≡ field.QueueRead
+      → told ≡ field.ReadQueue
       → taken ≡ readFrom (queue places (held .ring))
       → shown (card (held .core) (queue places (taken .ring)) ram) (queueWord (taken .word)) ≡ comes
-  unfolding happened happeningOf step queueReadStep
+  unfolding happened happeningOf valuedAt step queueReadStep
   queue-read-comes taken is is-taken = rw (is, is-taken)
 
   pub host-write-comes : (address first count : ℕ) (left : Happened) (ram′ : List ℕ)
@@ -97,25 +98,25 @@ module _ (told : Field) (window places ram : List ℕ) (held : Held) where
       → ram′ ≡ sets ram address (wordsAt window first count)
       → left ≡ quiet (held .core) (held .ring)
       → shown (cardOf (left .held) places ram′) (left .answer) ≡ comes
-  unfolding happened happeningOf step hostWriteStep
+  unfolding happened happeningOf valuedAt step hostWriteStep
   host-write-comes address first count left ram′ is is-ram is-left = rw (is, is-left, is-ram)
 
   pub table-comes : (table : ℕ) (core : Core) (left : Happened)
-      → told ≡ field.Table table
+      → told ≡ field.MoveTable table
       → core
       ≡ withTable (theBlock table)
       (withMessage (movedMessage (held .core .message)) (held .core))
       → left ≡ quiet core (held .ring)
       → shown (cardOf (left .held) places ram) (left .answer) ≡ comes
-  unfolding happened happeningOf step tableMoveStep
+  unfolding happened happeningOf valuedAt step tableMoveStep
   table-comes table core left is is-core is-left = rw (is, is-left, is-core)
 
   pub flags-come : (flags : ℕ) (core : Core) (left : Happened)
-      → told ≡ field.Flags flags
+      → told ≡ field.SetFlags flags
       → core ≡ withFlags flags (held .core)
       → left ≡ quiet core (held .ring)
       → shown (cardOf (left .held) places ram) (left .answer) ≡ comes
-  unfolding happened happeningOf step flagsWriteStep
+  unfolding happened happeningOf valuedAt step flagsWriteStep
   flags-come flags core left is is-core is-left = rw (is, is-left, is-core)
 
 pub ruleset happenings = (

@@ -18,9 +18,9 @@
 --     RefusedAlike  what the reader refuses for its value, the action refuses by the same number
 --     ByActions     a run is what the library's actions make
 --     ReplyLaws     the words that the library's silence sends
---     AcceptedLaws  what bytes tell, alone and one behind the other
---     CutLaws       accepted bytes can be cut at the end of every field
+--     ToldLaws      what bytes tell, one behind the other and cut at the end of a field
 --     OnwardLaws    a run goes on behind the fields that are taken
+--     ToldRun       a run of bytes that tell something goes to END
 --     AnswerLaws    every list of bytes gets an answer and an end
 --     OneBlock      one broken message costs one block, over recordings
 --     Determined    each public contract allows one outcome alone
@@ -43,9 +43,9 @@ pub mod SoundPieces
 pub mod RefusedAlike
 pub mod ByActions
 pub mod ReplyLaws
-pub mod AcceptedLaws
-pub mod CutLaws
+pub mod ToldLaws
 pub mod OnwardLaws
+pub mod ToldRun
 pub mod AnswerLaws
 pub mod OneBlock
 pub mod Determined

@@ -10,7 +10,7 @@ use lib.Dec.{eqb}
 use lib.ListN.{length, take, drop, length-take}
 use borrow.Author.Tests.{eqb-true, ne-eqb}
 use Rattle.card.specs.declared.place.Block.{Block}
-use Rattle.card.specs.Memory.{theCell, wordAddress}
+use Rattle.card.specs.Memory.{cardBlocks, theCell, wordAddress}
 use Rattle.card.specs.Sent.{sentRefusal, sentPart}
 use Rattle.card.proofs.SentLaws.{shown}
 use Rattle.terminal.specs.declared.state.Answer.{Answer}
@@ -41,14 +41,14 @@ pub few-sent : (ram : List ℕ) (block : Block) (count : ℕ)
 unfolding sentPart
 few-sent ram block count = go (eqb number 0) refl where
   number : ℕ
-  number = sentRefusal (length ram) block count
+  number = sentRefusal cardBlocks (length ram) block count
 
   go : (test : Bool) → eqb number 0 ≡ test
       → length (cond test (take count (drop (wordAddress block (theCell 0)) ram)) []) ≤ mostWords
   go true is =
       omega (
         arith,
-        shown (length ram) block count (eqb-true number 0 is) .at-most-32,
+        shown cardBlocks (length ram) block count (eqb-true number 0 is) .at-most,
         length-take count (drop (wordAddress block (theCell 0)) ram),
       )
   go false is = omega arith

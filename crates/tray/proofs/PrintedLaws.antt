@@ -12,9 +12,11 @@ use Rattle.terminal.specs.declared.state.Answer.{Answer}
 use Rattle.terminal.specs.declared.state.Answer.the-variants.{Replied, QueueWord}
 use Rattle.terminal.specs.declared.state.Reply.the-variants.{Silent, Status, Words, Last}
 use Rattle.recording.specs.declared.field.Field.{Field}
+use Rattle.recording.specs.declared.seen.Seen.{Seen}
 use Rattle.recording.specs.declared.reading.Reading.{Reading}
 use Rattle.recording.specs.declared.reading.Reading.the-variants.{Taken, End, Refused}
 use Rattle.recording.specs.Reading.{readAt}
+use Rattle.recording.specs.Value.{valuedAt}
 use Rattle.recording.proofs.TakenLaws.{taken-within}
 use Rattle.lines.specs.Lines.{endLine, refusalLine}
 use Rattle.lines.specs.Written.{lineRoom}
@@ -54,7 +56,7 @@ pub taking-line-fits : (bytes : List ℕ) (field : Field) (old : Tray)
     → length (takingLine bytes field old) ≤ lineRoom
 unfolding takingLine
 taking-line-fits bytes field old =
-    let new = happened (happeningOf bytes field) (old .card) in
+    let new = happened (happeningOf (valuedAt bytes field)) (old .card) in
     answer-fits (new .card .ram) (new .answer)
 
 pub last-line-fits : (number fields offset : ℕ) → length (lastLine number fields offset) ≤ lineRoom
@@ -68,26 +70,26 @@ last-line-fits number fields offset = go (eqb number 0) where
 -- ---- field by field
 
 -- a field that is taken leaves fewer bytes
-fewer : (bytes : List ℕ) (begun : Bool) (field : Field) (next : ℕ)
-    → readAt bytes 0 begun ≡ Taken field next → length (drop next bytes) < length bytes
-fewer bytes begun field next is =
+fewer : (bytes : List ℕ) (seen : Seen) (field : Field) (next : ℕ)
+    → readAt bytes 0 seen ≡ Taken field next → length (drop next bytes) < length bytes
+fewer bytes seen field next is =
     omega (
       arith,
       length-drop next bytes,
-      taken-within bytes 0 begun is .moves-on,
-      taken-within bytes 0 begun is .ends-inside,
+      taken-within bytes 0 seen is .moves-on,
+      taken-within bytes 0 seen is .ends-inside,
     )
 
 -- two ways to go on that agree on fewer bytes agree on these
 same-rest : (one other : Tray → List ℕ → Whole) (old : Tray) (bytes : List ℕ) (reading : Reading)
     → ((new : Tray) (rest : List ℕ) → length rest < length bytes → one new rest ≡ other new rest)
-    → readAt bytes 0 (old .begun) ≡ reading
+    → readAt bytes 0 (old .seen) ≡ reading
     → wholeOf reading one old bytes ≡ wholeOf reading other old bytes
 unfolding wholeOf
 same-rest one other old bytes (Taken field next) agree is =
     ap (withLine (takingLine bytes field old))
     (agree (taking bytes field next old) (drop next bytes)
-    (fewer bytes (old .begun) field next is))
+    (fewer bytes (old .seen) field next is))
 same-rest one other old bytes End agree is = refl
 same-rest one other old bytes (Refused number place) agree is = refl
 
@@ -99,14 +101,14 @@ unfolding wholeBy
 enough zero more old bytes short long = absurd (omega (arith, short))
 enough (suc most) zero old bytes short long = absurd (omega (arith, long))
 enough (suc most) (suc more) old bytes short long =
-    same-rest (wholeBy most) (wholeBy more) old bytes (readAt bytes 0 (old .begun))
+    same-rest (wholeBy most) (wholeBy more) old bytes (readAt bytes 0 (old .seen))
     (λ new rest fewer-bytes.
     enough most more new rest (omega (arith, fewer-bytes)) (omega (arith, fewer-bytes)))
     refl
 
 -- what is made of the bytes, by the first reading
 pub whole-by-reading : (old : Tray) (bytes : List ℕ) (reading : Reading)
-    → readAt bytes 0 (old .begun) ≡ reading
+    → readAt bytes 0 (old .seen) ≡ reading
     → wholeFrom old bytes ≡ wholeOf reading wholeFrom old bytes
 unfolding wholeFrom wholeBy
 whole-by-reading old bytes reading is =
@@ -129,7 +131,7 @@ last-line-there number fields offset = go (eqb number 0) where
 text-by-reading : (rest : Tray → List ℕ → Whole) (old : Tray) (bytes : List ℕ) (reading : Reading)
     → ((new : Tray) (fewer-bytes : List ℕ) → length fewer-bytes < length bytes
     → 0 < length (rest new fewer-bytes .text))
-    → readAt bytes 0 (old .begun) ≡ reading
+    → readAt bytes 0 (old .seen) ≡ reading
     → 0 < length (wholeOf reading rest old bytes .text)
 unfolding wholeOf
 text-by-reading rest old bytes (Taken field next) there is =
@@ -137,7 +139,7 @@ text-by-reading rest old bytes (Taken field next) there is =
     omega (
       arith,
       length-append (takingLine bytes field old) (rest new (drop next bytes) .text),
-      there new (drop next bytes) (fewer bytes (old .begun) field next is),
+      there new (drop next bytes) (fewer bytes (old .seen) field next is),
     )
 text-by-reading rest old bytes End there is = last-line-there 0 (old .fields) (old .offset)
 text-by-reading rest old bytes (Refused number place) there is =
@@ -148,7 +150,7 @@ text-there : (most : ℕ) (old : Tray) (bytes : List ℕ) → length bytes < mos
 unfolding wholeBy
 text-there zero old bytes few = absurd (omega (arith, few))
 text-there (suc most) old bytes few =
-    text-by-reading (wholeBy most) old bytes (readAt bytes 0 (old .begun))
+    text-by-reading (wholeBy most) old bytes (readAt bytes 0 (old .seen))
     (λ new rest fewer-bytes. text-there most new rest (omega (arith, fewer-bytes))) refl
 
 pub text-not-empty : (old : Tray) (bytes : List ℕ) → 0 < length (wholeFrom old bytes .text)

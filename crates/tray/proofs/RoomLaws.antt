@@ -6,7 +6,6 @@ use mathlib.Core.Bool.{true, false}
 use mathlib.Core.List.{List, [], _++_, append-nil}
 use Prim.Native.Nat.{ℕ, _+_, _-_, _*_, _≤_, _<_}
 use native.Mathlib.Omega.{arith}
-use lib.Dec.{eqb}
 use lib.ListN.{length, drop, take-append-drop}
 use lib.Seq.{sets, sets-eq, length-take-le, drop-drop}
 use borrow.Author.Tests.{eqb-true}
@@ -20,13 +19,24 @@ use Rattle.terminal.specs.Machine.{
   tableMoveStep,
   flagsWriteStep,
 }
-use Rattle.recording.specs.declared.field.Field.{Field}
+use Rattle.recording.specs.declared.tag.Tag.{Tag}
+use Rattle.recording.specs.declared.tag.Tag.the-variants.{
+  Setup,
+  Word,
+  Silence,
+  ReadQueue,
+  HostWrite,
+  MoveTable,
+  SetFlags,
+  Unknown,
+}
 use Rattle.recording.specs.declared.reading.Reading.{Reading}
 use Rattle.recording.specs.declared.reading.Reading.the-variants.{Taken, End, Refused}
-use Rattle.recording.specs.Bytes.{byteAt, wordAt}
-use Rattle.recording.specs.Field.{lengthFits, fieldAt}
+use Rattle.recording.specs.Bytes.{wordAt}
+use Rattle.recording.specs.Tag.{tagAt, lengthFits}
+use Rattle.recording.specs.Field.{fieldAt}
 use Rattle.recording.specs.Reading.{readAt}
-use Rattle.recording.proofs.FieldLaws.{size-of-word, size-of-silence}
+use Rattle.recording.specs.Value.{valuedAt}
 use Rattle.recording.proofs.TakenLaws.{taken-tells, taken-within}
 use Rattle.lines.specs.Written.{stored, lineRoom, lineWritten}
 use Rattle.lines.proofs.Lengths.{queue-bytes}
@@ -63,35 +73,29 @@ use Rattle.tray.proofs.EndLaws.{
 
 -- ---- the line of a field, by the bytes of the field
 
-module _ (bytes : List ℕ) (tag value size : ℕ) (fits : lengthFits tag size ≡ true) (old : Tray)
-  where
-    line-by-size : length (takingLine bytes (fieldAt bytes tag value size) old) ≤ 21 * (3 + size)
-    unfolding fieldAt takingLine happeningOf happened step queueReadStep hostWriteStep tableMoveStep
-        flagsWriteStep
-    line-by-size =
-        by-test Short (eqb tag 1) (λ _. omega arith) (λ _.
-        by-test Short (eqb tag 2)
-        (λ is.
-        omega (
-          arith,
-          taking-line-fits bytes (fieldAt bytes 2 value size) old,
-          size-of-word tag size fits (eqb-true tag 2 is),
-        ))
-        (λ _.
-        by-test Short (eqb tag 3)
-        (λ is.
-        omega (
-          arith,
-          taking-line-fits bytes (fieldAt bytes 3 value size) old,
-          size-of-silence tag size fits (eqb-true tag 3 is),
-        ))
-        (λ _.
-        by-test Short (eqb tag 4) (λ _. omega (arith, queue-bytes (oldestWord (old .card .queue)))) (λ _.
-        by-test Short (eqb tag 5) (λ _. omega arith) (λ _.
-        by-test Short (eqb tag 6) (λ _. omega arith) (λ _. omega arith))))))
-      where
-        Short : Field → Type 0
-        Short field = length (takingLine bytes field old) ≤ 21 * (3 + size)
+module _ (bytes : List ℕ) (value size : ℕ) (old : Tray) where
+  line-by-size : (tag : Tag) → lengthFits tag size ≡ true
+      → length (takingLine bytes (fieldAt bytes tag value size) old) ≤ 21 * (3 + size)
+  unfolding lengthFits fieldAt takingLine happeningOf valuedAt happened step queueReadStep
+      hostWriteStep tableMoveStep flagsWriteStep
+  line-by-size Setup fits = omega arith
+  line-by-size Word fits =
+      omega (
+        arith,
+        taking-line-fits bytes (fieldAt bytes Word value size) old,
+        eqb-true size 7 fits,
+      )
+  line-by-size Silence fits =
+      omega (
+        arith,
+        taking-line-fits bytes (fieldAt bytes Silence value size) old,
+        eqb-true size 5 fits,
+      )
+  line-by-size ReadQueue fits = omega (arith, queue-bytes (oldestWord (old .card .queue)))
+  line-by-size HostWrite fits = omega arith
+  line-by-size MoveTable fits = omega arith
+  line-by-size SetFlags fits = omega arith
+  line-by-size Unknown fits = omega (arith, queue-bytes (oldestWord (old .card .queue)))
 
 -- ---- what every turn keeps
 
@@ -136,22 +140,22 @@ module _ (window first : List ℕ) (room : wholeRoom (length window) ≤ length 
 
   passing-roomy : (old : Passed) → old .stop ≡ Going → Roomy old
       → lineRoom ≤ length (old .out) - old .put → (reading : Reading)
-      → readAt window (old .at) (old .tray .begun) ≡ reading
+      → readAt window (old .at) (old .tray .seen) ≡ reading
       → Roomy (passing reading window true old)
   unfolding passing takes stoppedAt stored
   passing-roomy old goes so-far enough (Taken field next) is =
       let line : List ℕ = takingLine window field (old .tray) in
-      let told = taken-tells window (old .at) (old .tray .begun) is in
+      let told = taken-tells window (old .at) (old .tray .seen) is in
       let short : length line ≤ 21 * (3 + wordAt window (old .at + 1)) =
       rw (told .is-field)
-      (line-by-size window (byteAt window (old .at)) (old .at + 3) (wordAt window (old .at + 1))
-      (told .there .fits) (old .tray)) in
+      (line-by-size window (old .at + 3) (wordAt window (old .at + 1)) (old .tray)
+      (tagAt window (old .at)) (told .there .fits)) in
       record {
         few =
             λ _.
             rw (in-room lineRoom (old .out) (old .put) line enough)
             (omega (arith, short, so-far .few goes, told .is-next));
-        within = taken-within window (old .at) (old .tray .begun) is .ends-inside;
+        within = taken-within window (old .at) (old .tray .seen) is .ends-inside;
         as-long = length-written lineRoom (old .out) (old .put) line ∙ so-far .as-long;
         behind =
             behind-line old line so-far enough (taking-line-fits window field (old .tray));

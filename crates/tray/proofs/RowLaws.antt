@@ -8,7 +8,7 @@ use native.Mathlib.Omega.{arith}
 use lib.ListN.{length}
 use borrow.Author.Tests.{lt-ltb}
 use Rattle.bus.specs.declared.word.Word.{Word}
-use Rattle.card.specs.Memory.{withCell}
+use Rattle.card.specs.Memory.{theCell, withCell}
 use Rattle.message.specs.declared.state.OpenMessage.{OpenMessage}
 use Rattle.terminal.specs.declared.row.Row.{Row}
 use Rattle.terminal.specs.declared.state.Core.{Core}
@@ -54,7 +54,7 @@ behind-none row at ram =
 behind-one : (heard : Word) (words : List Word) (row : Row) (at : ℕ) (ram : List ℕ)
     → behind (heard ∷ words) (at-row row at ram)
     ≡ behind words (at-row (wordCounted row) (at + 10)
-    (withCell ram (row .block) (row .taken) (heard .value)))
+    (withCell ram (row .block) (theCell (row .taken)) (heard .value)))
 unfolding withRow
 behind-one heard words row at ram =
     let same-taken : row .taken + suc (length words) ≡ row .taken + 1 + length words =
@@ -86,10 +86,10 @@ module _ (window : List ℕ) (line : Bool) where
     unfolding wordsFound
     row-goes-on value next row′ ram′ is is-stored long =
         let one : storing row′ ram′
-        ≡ storing (wordCounted row) (withCell ram (row .block) (row .taken) value) =
+        ≡ storing (wordCounted row) (withCell ram (row .block) (theCell (row .taken)) value) =
         rw (lt-ltb (row .taken) (row .wanted) more) at is-stored in
         let same-row : row′ ≡ wordCounted row = ap (λ (any : Storing). any .row) one in
-        let same-ram : ram′ ≡ withCell ram (row .block) (row .taken) value =
+        let same-ram : ram′ ≡ withCell ram (row .block) (theCell (row .taken)) value =
         ap (λ (any : Storing). any .ram) one in
         let same-next : next ≡ at + 10 =
         found-next window line at value next (at-marks ∙ is) in
@@ -113,7 +113,7 @@ module _ (window : List ℕ) (line : Bool) where
         → row′ .wanted - row′ .taken < row .wanted - row .taken
     row-less value row′ ram′ is-stored =
         let one : storing row′ ram′
-        ≡ storing (wordCounted row) (withCell ram (row .block) (row .taken) value) =
+        ≡ storing (wordCounted row) (withCell ram (row .block) (theCell (row .taken)) value) =
         rw (lt-ltb (row .taken) (row .wanted) more) at is-stored in
         let same-row : row′ ≡ wordCounted row = ap (λ (any : Storing). any .row) one in
         rw same-row (omega (arith, more))
@@ -139,7 +139,7 @@ pub row-after : (old : Ran) (message : OpenMessage) (end : Reach) (core : Core)
       run =
           record {
             held = record { core = core; ring = old .run .held .ring };
-            begun = old .run .begun;
+            seen = old .run .seen;
             fields = fields;
             offset = offset;
           };

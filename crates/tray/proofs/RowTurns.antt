@@ -8,6 +8,7 @@ use native.Mathlib.Omega.{arith}
 use lib.Dec.{leb, ltb}
 use lib.ListN.{length}
 use borrow.Author.Tests.{leb-true, ltb-true, not-false}
+use Rattle.rules.proofs.Halves.{first-of-both, second-of-both}
 use Rattle.bus.specs.declared.word.Word.{Word}
 use Rattle.message.specs.declared.state.OpenMessage.{OpenMessage}
 use Rattle.message.specs.declared.state.Message.the-variants.{Open}
@@ -20,7 +21,7 @@ use Rattle.terminal.specs.Row.{rowStored}
 use Rattle.terminal.specs.AsCoded.Row.{rowOf}
 use Rattle.terminal.specs.Machine.{run}
 use Rattle.terminal_laws.proofs.RowLaws.{row-is-words}
-use Rattle.recording.proofs.Choices.{both-of}
+use Rattle.recording.specs.declared.seen.Seen.{Seen}
 use Rattle.lines.specs.Written.{lineRoom, mostWords}
 use Rattle.tray.specs.declared.row.Reach.{Reach}
 use Rattle.tray.specs.declared.window.Ran.{Ran}
@@ -40,35 +41,37 @@ use Rattle.tray.specs.AsCoded.Row.{
 use Rattle.tray.proofs.WordTurns.{found-are-data, found-at-most, words-are-turns, among}
 
 -- what the test allows
-record Able (begun : Bool) (room most : ℕ) (row : Row) : Type 0 where
-  is-begun : begun ≡ true
+record Able (seen : Seen) (room most : ℕ) (row : Row) : Type 0 where
+  after-setup : seen .setup ≡ true
   enough : lineRoom ≤ room
   many : mostWords < most
   more : row .taken < row .wanted
 
-able-tells : (begun : Bool) (room most : ℕ) (row : Row) → mayTakeRow begun room most row ≡ true
-    → Able begun room most row
-able-tells begun room most row is =
-    let all =
-    both-of (begun && leb lineRoom room && ltb mostWords most) (ltb (row .taken) (row .wanted)) is in
-    let first = both-of (begun && leb lineRoom room) (ltb mostWords most) (all .0) in
-    let second = both-of begun (leb lineRoom room) (first .0) in
+able-tells : (seen : Seen) (room most : ℕ) (row : Row) → mayTakeRow seen room most row ≡ true
+    → Able seen room most row
+able-tells seen room most row is =
+    let setup = seen .setup in
+    let enough = leb lineRoom room in
+    let many = ltb mostWords most in
+    let more = ltb (row .taken) (row .wanted) in
+    let to-many = first-of-both (setup && enough && many) more is in
+    let to-enough = first-of-both (setup && enough) many to-many in
     record {
-      is-begun = second .0;
-      enough = leb-true lineRoom room (second .1);
-      many = ltb-true mostWords most (first .1);
-      more = ltb-true (row .taken) (row .wanted) (all .1);
+      after-setup = first-of-both setup enough to-enough;
+      enough = leb-true lineRoom room (second-of-both setup enough to-enough);
+      many = ltb-true mostWords most (second-of-both (setup && enough) many to-many);
+      more = ltb-true (row .taken) (row .wanted) (second-of-both (setup && enough && many) more is);
     }
 
 module _ (old : Ran) (message : OpenMessage) (window ram ram′ : List ℕ) (room most : ℕ)
     (row : Row) (end : Reach) (is-row : row ≡ rowOf message)
-    (able : not (mayTakeRow (old .run .begun) room most row) ≡ false)
+    (able : not (mayTakeRow (old .run .seen) room most row) ≡ false)
     (is-end : stored end ram′
     ≡ behindRow window (message .line) (stored (record { row = row; at = old .at }) ram)) where
-  tells : Able (old .run .begun) room most (rowOf message)
+  tells : Able (old .run .seen) room most (rowOf message)
   tells =
-      able-tells (old .run .begun) room most (rowOf message)
-      (rw is-row at (not-false (mayTakeRow (old .run .begun) room most row) able))
+      able-tells (old .run .seen) room most (rowOf message)
+      (rw is-row at (not-false (mayTakeRow (old .run .seen) room most row) able))
 
   abbrev fuel : ℕ
   fuel = wants message - message .taken
@@ -132,18 +135,18 @@ module _ (old : Ran) (message : OpenMessage) (window ram ram′ : List ℕ) (roo
           ∙ ap (λ (any : Stored). turns left window last
           (passedOf (ranAfter old message (any .reach) words) places (any .ram) out)) is-stored
           ∙ ap (λ (any : ℕ). turns left window last
-          (among window out last (message .line) (old .run .begun) (old .put) (old .stop)
-          (tells .is-begun) is-going (rw is-room at (tells .enough))
+          (among window out last (message .line) (old .run .seen) (old .put) (old .stop)
+          (tells .after-setup) is-going (rw is-room at (tells .enough))
           (old .at + 10 * length found) (rowStored found message before)
           (counted (old .run .fields + any)) (counted (old .run .offset + 10 * any)))) as-many
           ∙ ap (λ (any : Card). turns left window last
-          (among window out last (message .line) (old .run .begun) (old .put) (old .stop)
-          (tells .is-begun) is-going (rw is-room at (tells .enough))
+          (among window out last (message .line) (old .run .seen) (old .put) (old .stop)
+          (tells .after-setup) is-going (rw is-room at (tells .enough))
           (old .at + 10 * length found) any
           (counted (old .run .fields + length found))
           (counted (old .run .offset + 10 * length found)))) (sym as-row)
-          ∙ words-are-turns window out last (message .line) (old .run .begun) (old .put) (old .stop)
-          (tells .is-begun) is-going (rw is-room at (tells .enough))
+          ∙ words-are-turns window out last (message .line) (old .run .seen) (old .put) (old .stop)
+          (tells .after-setup) is-going (rw is-room at (tells .enough))
           fuel left (old .at) before (old .run .fields) (old .run .offset) small near
           ∙ ap (λ (any : ℕ). turns any window last (passedOf old places ram out)) all
 

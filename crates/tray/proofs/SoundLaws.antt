@@ -27,14 +27,15 @@ use Rattle.recording.specs.declared.field.Field.the-variants.{
   Setup,
   Word,
   Silence,
-  QueueRead,
+  ReadQueue,
   HostWrite,
-  Table,
-  Flags,
+  MoveTable,
+  SetFlags,
 }
 use Rattle.recording.specs.declared.reading.Reading.the-variants.{Taken}
 use Rattle.recording.specs.Field.{isSetup}
 use Rattle.recording.specs.Reading.{readAt}
+use Rattle.recording.specs.Value.{valuedAt}
 use Rattle.recording.proofs.TakenLaws.{setup-by-turn}
 use Rattle.recording.proofs.InOrder.{InOrder, taken-in-order}
 use Rattle.tray.specs.Happening.{happeningOf, happened}
@@ -46,7 +47,7 @@ use Rattle.tray.specs.Sound.{SoundTray}
 pub start-is-sound : (ram : List ℕ) → length ram ≡ cardWords → SoundTray (trayOver ram)
 unfolding trayOver
 start-is-sound ram long =
-    record { whole-memory = long; fit = λ begun. absurd (true≢false (sym begun)) }
+    record { whole-memory = long; fit = λ seen. absurd (true≢false (sym seen)) }
 
 -- ---- a field
 
@@ -54,46 +55,46 @@ start-is-sound ram long =
 happening-is-sound : (bytes : List ℕ) (field : Field) (place next : ℕ) (old : Card)
     → InOrder place next field → length (old .ram) ≡ cardWords
     → (isSetup field ≡ false → WholeAndFit old)
-    → WholeAndFit (happened (happeningOf bytes field) old .card)
-unfolding happened happeningOf FitEvent terminalAtSetup
+    → WholeAndFit (happened (happeningOf (valuedAt bytes field)) old .card)
+unfolding happened happeningOf valuedAt FitEvent terminalAtSetup
 happening-is-sound bytes (Setup station table flags) place next old in-order long sound =
     record {
       whole-memory = long;
       fit =
           fit-at-setup station (theBlock table) flags (in-order .station-at-most)
-          (omega (arith, in-order .table-at-most)) (in-order .flags-at-most);
+          (in-order .table-on-card) (in-order .flags-at-most);
     }
 happening-is-sound bytes (Word marks value time) place next old in-order long sound =
     whole-and-fit-stays (word _) old tt (sound refl)
 happening-is-sound bytes (Silence line time) place next old in-order long sound =
     whole-and-fit-stays (silence _ time) old tt (sound refl)
-happening-is-sound bytes QueueRead place next old in-order long sound =
+happening-is-sound bytes ReadQueue place next old in-order long sound =
     whole-and-fit-stays queueRead old tt (sound refl)
 happening-is-sound bytes (HostWrite address first count) place next old in-order long sound =
     whole-and-fit-stays (hostWrite address _) old tt (sound refl)
-happening-is-sound bytes (Table table) place next old in-order long sound =
-    whole-and-fit-stays (tableMove (theBlock table)) old (omega (arith, in-order)) (sound refl)
-happening-is-sound bytes (Flags flags) place next old in-order long sound =
+happening-is-sound bytes (MoveTable table) place next old in-order long sound =
+    whole-and-fit-stays (tableMove (theBlock table)) old in-order (sound refl)
+happening-is-sound bytes (SetFlags flags) place next old in-order long sound =
     whole-and-fit-stays (flagsWrite flags) old in-order (sound refl)
 
 -- once a setup has been read
-pub begun-is-whole-and-fit : {old : Tray} → SoundTray old → old .begun ≡ true
+pub set-up-is-whole-and-fit : {old : Tray} → SoundTray old → old .seen .setup ≡ true
     → WholeAndFit (old .card)
-begun-is-whole-and-fit sound begun =
-    record { whole-memory = sound .whole-memory; fit = sound .fit begun }
+set-up-is-whole-and-fit sound set-up =
+    record { whole-memory = sound .whole-memory; fit = sound .fit set-up }
 
 module _ (bytes : List ℕ) (place : ℕ) (old : Tray) {field : Field} {next : ℕ}
-    (is : readAt bytes place (old .begun) ≡ Taken field next) (sound : SoundTray old) where
+    (is : readAt bytes place (old .seen) ≡ Taken field next) (sound : SoundTray old) where
   -- a field that is no setup has one before it
   pub sound-before : isSetup field ≡ false → WholeAndFit (old .card)
   sound-before other =
-      begun-is-whole-and-fit sound
-      (not-false (old .begun) (sym (setup-by-turn bytes place (old .begun) is) ∙ other))
+      set-up-is-whole-and-fit sound
+      (not-false (old .seen .setup) (sym (setup-by-turn bytes place (old .seen) is) ∙ other))
 
   pub taking-is-sound : (size : ℕ) → SoundTray (taking bytes field size old)
   unfolding taking
   taking-is-sound size =
       let new =
       happening-is-sound bytes field place next (old .card)
-      (taken-in-order bytes place (old .begun) is) (sound .whole-memory) sound-before in
+      (taken-in-order bytes place (old .seen) is) (sound .whole-memory) sound-before in
       record { whole-memory = new .whole-memory; fit = λ _. new .fit }

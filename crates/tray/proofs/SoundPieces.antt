@@ -32,7 +32,7 @@ use Rattle.tray.proofs.SoundLaws.{taking-is-sound}
 
 module _ (window : List ℕ) (last : Bool) where
   passing-is-sound : (old : Passed) (reading : Reading)
-      → readAt window (old .at) (old .tray .begun) ≡ reading
+      → readAt window (old .at) (old .tray .seen) ≡ reading
       → SoundTray (old .tray) → SoundTray (passing reading window last old .tray)
   unfolding passing takes
   passing-is-sound old (Taken field next) is sound =
@@ -49,7 +49,7 @@ module _ (window : List ℕ) (last : Bool) where
   turn-is-sound : (old : Passed) → SoundTray (old .tray) → SoundTray (turn window last old .tray)
   unfolding turn
   turn-is-sound old sound =
-      let reading : Reading = readAt window (old .at) (old .tray .begun) in
+      let reading : Reading = readAt window (old .at) (old .tray .seen) in
       either-is-sound (ltb (length (old .out) - old .put) lineRoom) (stopping Full old)
       (passing reading window last old) sound (passing-is-sound old reading refl sound)
 

@@ -8,11 +8,12 @@ use lib.ListN.{length, replicate}
 use Rattle.bus.specs.declared.word.Word.{Word}
 use Rattle.card.specs.Memory.{cardWords}
 use Rattle.terminal.specs.Event.{Event}
+use Rattle.recording.specs.declared.seen.Seen.{Seen}
 use Rattle.tray.specs.Happening.{Happening}
 use Rattle.tray.specs.Run.{Tray, trayOver, trayAtStart, Whole, wholeFrom, printed}
 use Rattle.tray.specs.Sound.{SoundTray}
 use Rattle.tray.specs.ByActions.{ByActions}
-use Rattle.tray.specs.Accepted.{Accepted, Cut, Continues}
+use Rattle.tray.specs.Told.{Tells, CutTelling, ContinuesTelling}
 use Rattle.tray.specs.Answered.{Answered, SameAnswer}
 use Rattle.tray.specs.OneBlock.{BrokenRecording, SameRecordings, RunsTo, textOf}
 use Rattle.tray.specs.AsCoded.Window.{windowRun}
@@ -22,8 +23,7 @@ use Rattle.tray.proofs.SoundLaws as sound
 use Rattle.tray.proofs.SoundPieces as pieces
 use Rattle.tray.proofs.ByActions as actions
 use Rattle.tray.proofs.PieceLaws as streamed
-use Rattle.tray.proofs.AcceptedLaws as accepted
-use Rattle.tray.proofs.CutLaws as cutting
+use Rattle.tray.proofs.ToldLaws as told
 use Rattle.tray.proofs.OneBlock.Theorem as demand
 
 -- ---- demand 1: every list of bytes gets an answer and an end, and only one
@@ -73,11 +73,11 @@ printed-of-zeros : (station table flags : ℕ) (bytes : List ℕ) (sooner later 
 printed-of-zeros = demand.printed-of-zeros
 
 -- an accepted recording can be cut at every field, and bytes that begin alike tell alike
-cut-at-field : {begun : Bool} {bytes : List ℕ} (first second : List Happening)
-    → Accepted begun bytes (first ++ second) → Cut begun bytes first second
-cut-at-field = cutting.cut-at-field
+cut-telling : {seen : Seen} {bytes : List ℕ} (first second : List Happening)
+    → Tells seen bytes (first ++ second) → CutTelling seen bytes first second
+cut-telling = told.cut-telling
 
-same-beginning : {begun : Bool} (front back : List ℕ) {first told : List Happening}
-    → Accepted begun front first → Accepted begun (front ++ back) told
-    → Continues begun back first told
-same-beginning = accepted.same-beginning
+continues-telling : {seen : Seen} (front back : List ℕ) {first told : List Happening}
+    (beginning : Tells seen front first) → Tells seen (front ++ back) told
+    → ContinuesTelling back beginning told
+continues-telling = told.continues-telling

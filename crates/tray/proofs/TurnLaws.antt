@@ -9,10 +9,13 @@ use borrow.Author.Tests.{lt-ltb, le-ltb}
 use Rattle.rules.proofs.Clash.{clash}
 use Rattle.terminal.specs.Event.{shown}
 use Rattle.recording.specs.declared.field.Field.{Field}
+use Rattle.recording.specs.declared.seen.Seen.{Seen}
 use Rattle.recording.specs.declared.field.Field.the-variants.{HostWrite}
 use Rattle.recording.specs.declared.reading.Reading.{Reading}
 use Rattle.recording.specs.declared.reading.Reading.the-variants.{Taken, End, Refused}
+use Rattle.recording.specs.Seen.{seenAfter}
 use Rattle.recording.specs.Reading.{readAt}
+use Rattle.recording.specs.Value.{valuedAt}
 use Rattle.recording.proofs.TakenLaws.{taken-within}
 use Rattle.recording.proofs.InOrder.{taken-in-order}
 use Rattle.recording.proofs.TakenWords.{taken-words-there}
@@ -20,7 +23,7 @@ use Rattle.lines.specs.Written.{Put, put, lineRoom, lineWritten}
 use Rattle.tray.specs.declared.field.Happened.{Happened}
 use Rattle.tray.specs.declared.window.Ran.{Ran}
 use Rattle.tray.specs.declared.window.Stop.{Stop}
-use Rattle.tray.specs.declared.window.Stop.the-variants.{Going, Full, Over}
+use Rattle.tray.specs.declared.window.Stop.the-variants.{Going, Hungry, Full, Over}
 use Rattle.tray.specs.Happening.{happeningOf, happened}
 use Rattle.tray.specs.Run.{answerLine, taking, takingLine}
 use Rattle.tray.specs.AsCoded.Window.{
@@ -42,43 +45,46 @@ module _ (ran : Ran) (places ram out window : List ℕ) (told : Field) (next : �
   old = passedOf ran places ram out
 
   pub field-taken : (left : Happened) (places′ ram′ out′ : List ℕ) (put′ fields offset : ℕ)
+      (seen : Seen)
       → shown (cardOf (left .held) places′ ram′) (left .answer)
-      ≡ happened (happeningOf window told) (cardOf (ran .run .held) places ram)
+      ≡ happened (happeningOf (valuedAt window told)) (cardOf (ran .run .held) places ram)
       → put put′ out′ ≡ lineWritten out (ran .put) (answerLine ram′ (left .answer))
+      → seen ≡ seenAfter told (ran .run .seen)
       → fields ≡ (ran .run .fields + 1) % 2 ^ 64
       → offset ≡ (ran .run .offset + (next - ran .at)) % 2 ^ 64
       → passedOf (record {
         run =
-            record { held = left .held; begun = true; fields = fields; offset = offset };
+            record { held = left .held; seen = seen; fields = fields; offset = offset };
         at = next;
         put = put′;
         stop = Going;
       }) places′ ram′ out′
       ≡ takes window told next old
   unfolding takes taking takingLine
-  field-taken left places′ ram′ out′ put′ fields offset is-left is-put is-fields is-offset =
-      rw (← is-left, ← is-put, is-fields, is-offset)
+  field-taken left places′ ram′ out′ put′ fields offset seen is-left is-put is-seen is-fields
+      is-offset =
+      rw (← is-left, ← is-put, is-seen, is-fields, is-offset)
 
 -- a field that was read has its words in the window, and ends further on
-pub reads-on : (window : List ℕ) (at : ℕ) (begun : Bool) (reading : Reading) (told : Field)
+pub reads-on : (window : List ℕ) (at : ℕ) (seen : Seen) (reading : Reading) (told : Field)
     (next : ℕ)
-    → reading ≡ readAt window at begun → reading ≡ Taken told next
+    → reading ≡ readAt window at seen → reading ≡ Taken told next
     → WasRead window told at next
-reads-on window at begun reading told next is-reading is =
-    let taken : readAt window at begun ≡ Taken told next = sym is-reading ∙ is in
+reads-on window at seen reading told next is-reading is =
+    let taken : readAt window at seen ≡ Taken told next = sym is-reading ∙ is in
     record {
       words =
           record {
             words =
                 λ address first count is-write.
-                let write : readAt window at begun ≡ Taken (HostWrite address first count) next =
+                let write : readAt window at seen ≡ Taken (HostWrite address first count) next =
                 taken ∙ ap (λ (any : Field). Taken any next) is-write in
                 record {
-                  few = taken-in-order window at begun write .at-most;
-                  there = taken-words-there window at begun write;
+                  few = taken-in-order window at seen write .at-most;
+                  there = taken-words-there window at seen write;
                 };
           };
-      further = omega (arith, taken-within window at begun taken .moves-on);
+      further = omega (arith, taken-within window at seen taken .moves-on);
     }
 
 -- what the record tells, for `search` and `omega`
@@ -107,7 +113,7 @@ module _ (ran : Ran) (places ram out window : List ℕ) (last : Bool) (room : �
       rw (is-left, lt-ltb (length out - ran .put) lineRoom (rw is-room at short))
 
   module _ (reading : Reading) (enough : lineRoom ≤ room)
-      (is-reading : reading ≡ readAt window (ran .at) (ran .run .begun)) where
+      (is-reading : reading ≡ readAt window (ran .at) (ran .run .seen)) where
     turn-by : passing reading window last before ≡ turn window last before
     unfolding turn
     turn-by = rw (is-reading, le-ltb (length out - ran .put) lineRoom (rw is-room at enough))

@@ -10,25 +10,17 @@ use lib.Dec.{ltb}
 use lib.ListN.{length, take, drop}
 use lib.Seq.{drop-append-le, drop-drop}
 use borrow.Author.Tests.{ltb-false}
-use Rattle.terminal.specs.Event.{hostWrite}
 use Rattle.recording.specs.declared.field.Field.{Field}
-use Rattle.recording.specs.declared.field.Field.the-variants.{
-  Setup,
-  Word,
-  Silence,
-  QueueRead,
-  HostWrite,
-  Table,
-  Flags,
-}
+use Rattle.recording.specs.declared.seen.Seen.{Seen}
 use Rattle.recording.specs.declared.reading.Reading.{Reading}
 use Rattle.recording.specs.declared.reading.Reading.the-variants.{Taken, End, Refused}
 use Rattle.recording.specs.AsCoded.Pieces.{shiftedField, shifted}
 use Rattle.recording.specs.Reading.{readAt}
+use Rattle.recording.specs.Value.{valuedAt}
 use Rattle.recording.proofs.TakenLaws.{taken-within}
-use Rattle.recording.proofs.TakenWords.{more-bytes-same-words}
 use Rattle.recording.proofs.MoreBytes.{more-bytes-same-field, more-bytes-same-refusal}
-use Rattle.recording.proofs.Shifted.{dropped-words, dropped-bytes}
+use Rattle.recording.proofs.Shifted.{seen-of-shifted, dropped-bytes}
+use Rattle.recording.proofs.ValueLaws.{more-bytes-same-values, shifted-values}
 use Rattle.lines.specs.Written.{lineRoom, lineWritten}
 use Rattle.lines.proofs.WrittenLaws.{take-written, length-written, next-written}
 use Rattle.tray.specs.declared.window.Stop.{Stop}
@@ -64,21 +56,13 @@ use Rattle.tray.proofs.PrintedLaws.{
   whole-by-reading,
 }
 
--- a field tells the same, read at a place of the window or at the front of what is left
-happening-same : (window behind : List ℕ) (at : ℕ) (begun : Bool) (field : Field) (next : ℕ)
-    → readAt (drop at window) 0 begun ≡ Taken field next
-    → happeningOf window (shiftedField at field) ≡ happeningOf (drop at window ++ behind) field
-unfolding happeningOf
-happening-same window behind at begun (Setup station table flags) next is = refl
-happening-same window behind at begun (Word marks value time) next is = refl
-happening-same window behind at begun (Silence line time) next is = refl
-happening-same window behind at begun QueueRead next is = refl
-happening-same window behind at begun (HostWrite address first count) next is =
-    ap (λ (words : List ℕ). event (hostWrite address words))
-    (dropped-words at window first count
-    ∙ sym (more-bytes-same-words (drop at window) 0 begun is behind))
-happening-same window behind at begun (Table table) next is = refl
-happening-same window behind at begun (Flags flags) next is = refl
+-- a field has the same values, read at a place of the window or at the front of what is left
+values-same : (window behind : List ℕ) (at : ℕ) (seen : Seen) (field : Field) {next : ℕ}
+    → readAt (drop at window) 0 seen ≡ Taken field next
+    → valuedAt window (shiftedField at field) ≡ valuedAt (drop at window ++ behind) field
+values-same window behind at seen field is =
+    shifted-values at window field
+    ∙ sym (more-bytes-same-values (drop at window) behind 0 seen field is)
 
 -- what is still to come of a run: all that it makes of the bytes that are left, and of one that is
 -- over nothing more
@@ -111,23 +95,23 @@ module _ (window behind : List ℕ) where
 
       -- a field is taken
       field-same : (field : Field) (next : ℕ) → lineRoom ≤ length out - place
-          → readAt (drop at window) 0 (old .begun) ≡ Taken field next
+          → readAt (drop at window) 0 (old .seen) ≡ Taken field next
           → total (takes window (shiftedField at field) (at + next) going) ≡ total going
       unfolding takes taking takingLine wholeOf
       field-same field next room is =
-          let told : happeningOf window (shiftedField at field) ≡ happeningOf left field =
-          happening-same window behind at (old .begun) field next is in
+          let values : valuedAt window (shiftedField at field) ≡ valuedAt left field =
+          values-same window behind at (old .seen) field is in
           let size : (at + next) - at ≡ next = omega arith in
           let rest : drop (at + next) window ++ behind ≡ drop next left =
           ap (λ (bytes : List ℕ). bytes ++ behind) (sym (drop-drop next at window))
           ∙ sym (drop-append-le next (drop at window) behind
-          (taken-within (drop at window) 0 (old .begun) is .ends-inside)) in
+          (taken-within (drop at window) 0 (old .seen) is .ends-inside)) in
           let line : List ℕ = takingLine left field old in
           let after : Whole = wholeFrom (taking left field next old) (drop next left) in
           let first : wholeFrom old left ≡ withLine line after =
           whole-by-reading old left (Taken field next)
-          (more-bytes-same-field (drop at window) behind 0 (old .begun) is) in
-          rw (told, size, rest)
+          (more-bytes-same-field (drop at window) behind 0 (old .seen) is) in
+          rw (values, seen-of-shifted at field (old .seen), size, rest)
           (ap (λ (text : List ℕ). withLine text after)
           (line-printed line room (taking-line-fits left field old))
           ∙ ap (λ (text : List ℕ). whole text (after .tray))
@@ -156,12 +140,12 @@ module _ (window behind : List ℕ) where
             ∙ ap (withLine (take place out)) (sym (ends is)))
 
       -- what is left is read so, if no bytes come behind or the reading is settled
-      by-last : (reading : Reading) → last ≡ true → readAt (drop at window) 0 (old .begun) ≡ reading
-          → readAt left 0 (old .begun) ≡ reading
+      by-last : (reading : Reading) → last ≡ true → readAt (drop at window) 0 (old .seen) ≡ reading
+          → readAt left 0 (old .seen) ≡ reading
       by-last reading is-last is =
-          ap (λ (bytes : List ℕ). readAt (drop at window ++ bytes) 0 (old .begun))
+          ap (λ (bytes : List ℕ). readAt (drop at window ++ bytes) 0 (old .seen))
           (none-behind is-last)
-          ∙ ap (λ (bytes : List ℕ). readAt bytes 0 (old .begun)) (append-nil (drop at window))
+          ∙ ap (λ (bytes : List ℕ). readAt bytes 0 (old .seen)) (append-nil (drop at window))
           ∙ is
 
       settled-end : not last && mayGoOn 0 ≡ false → last ≡ true
@@ -172,18 +156,18 @@ module _ (window behind : List ℕ) where
 
       -- a refusal that ends the run is one of all that is left
       refusal-read : (number named : ℕ)
-          → readAt (drop at window) 0 (old .begun) ≡ Refused number named
+          → readAt (drop at window) 0 (old .seen) ≡ Refused number named
           → not last && mayGoOn number ≡ false
-          → readAt left 0 (old .begun) ≡ Refused number named
+          → readAt left 0 (old .seen) ≡ Refused number named
       refusal-read number named is ends = go last refl where
-        go : (any : Bool) → last ≡ any → readAt left 0 (old .begun) ≡ Refused number named
+        go : (any : Bool) → last ≡ any → readAt left 0 (old .seen) ≡ Refused number named
         go true is-last = by-last (Refused number named) is-last is
         go false is-last =
-            more-bytes-same-refusal (drop at window) behind 0 (old .begun) is
+            more-bytes-same-refusal (drop at window) behind 0 (old .seen) is
             (λ five. true≢false (rw (is-last, five) at ends))
 
       passing-same : (reading : Reading) → lineRoom ≤ length out - place
-          → readAt (drop at window) 0 (old .begun) ≡ reading
+          → readAt (drop at window) 0 (old .seen) ≡ reading
           → total (passing (shifted at reading) window last going) ≡ total going
       unfolding passing wholeOf
       passing-same (Taken field next) room is = field-same field next room is
@@ -198,18 +182,18 @@ module _ (window behind : List ℕ) where
       turn-same : total (turn window last going) ≡ total going
       unfolding turn
       turn-same = go (ltb (length out - place) lineRoom) refl where
-        here : readAt window at (old .begun)
-            ≡ shifted at (readAt (drop at window) 0 (old .begun))
+        here : readAt window at (old .seen)
+            ≡ shifted at (readAt (drop at window) 0 (old .seen))
         here =
-            ap (λ (from : ℕ). readAt window from (old .begun)) (omega arith)
-            ∙ dropped-bytes at window 0 (old .begun)
+            ap (λ (from : ℕ). readAt window from (old .seen)) (omega arith)
+            ∙ dropped-bytes at window 0 (old .seen)
 
         go : (full : Bool) → ltb (length out - place) lineRoom ≡ full
             → total (turn window last going) ≡ total going
         go true is = rw is
         go false is =
             rw (is, here)
-            (passing-same (readAt (drop at window) 0 (old .begun))
+            (passing-same (readAt (drop at window) 0 (old .seen))
             (ltb-false (length out - place) lineRoom is) refl)
 
       -- the next line goes into the buffer
@@ -250,7 +234,7 @@ module _ (window behind : List ℕ) where
         go : (full : Bool) → ltb (length out - place) lineRoom ≡ full
             → turn window last going .put ≤ length (turn window last going .out)
         go true is = rw is inside
-        go false is = rw is (passing-inside (readAt window at (old .begun)))
+        go false is = rw is (passing-inside (readAt window at (old .seen)))
 
     -- ---- turn after turn
 

@@ -8,6 +8,7 @@ use native.Mathlib.Omega.{arith}
 use lib.ListN.{length}
 use borrow.Author.Tests.{le-ltb}
 use Rattle.bus.specs.declared.word.Word.{Word}
+use Rattle.bus.specs.Limits.{allMarks}
 use Rattle.bus.specs.Word.{wordOf}
 use Rattle.terminal.specs.State.{Card}
 use Rattle.terminal.specs.Event.{word}
@@ -17,7 +18,10 @@ use Rattle.terminal.proofs.SilentLaws.{words-are-silent}
 use Rattle.recording.specs.declared.words.Found.{Found}
 use Rattle.recording.specs.declared.words.Found.the-variants.{Value, Nothing}
 use Rattle.recording.specs.Bytes.{timeAt}
+use Rattle.recording.specs.declared.seen.Seen.{Seen}
 use Rattle.recording.specs.AsCoded.Found.{wordFound}
+use Rattle.recording.specs.Value.{valuedAt}
+use Rattle.recording.specs.Seen.{setupSeen}
 use Rattle.recording.proofs.FoundLaws.{found-is-read, found-moves-on}
 use Rattle.lines.specs.Written.{lineRoom}
 use Rattle.tray.specs.declared.window.Stop.{Stop}
@@ -30,7 +34,7 @@ use Rattle.tray.proofs.LineLaws.{nothing-written}
 
 -- ---- the words that are found
 
-marks-few : (line : Bool) → marksOn line ≤ 15
+marks-few : (line : Bool) → marksOn line ≤ allMarks
 marks-few true = omega arith
 marks-few false = omega arith
 
@@ -38,7 +42,7 @@ marks-few false = omega arith
 pub found-next : (window : List ℕ) (line : Bool) (at value next : ℕ)
     → wordFound window at (marksOn line) ≡ Value value next → next ≡ at + 10
 found-next window line at value next is =
-    found-moves-on window at (marksOn line) (marks-few line) is
+    found-moves-on window at (marksOn line) (marks-few line) setupSeen refl is
 
 -- it is a data word on the line
 is-data-word : (line : Bool) (value time : ℕ) → DataWord line (wordOf (marksOn line) value time)
@@ -76,13 +80,13 @@ pub one-turn : (window : List ℕ) (last : Bool) (left : ℕ) (old new : Passed)
 unfolding turns
 one-turn window last left old new going is = rw (is, going)
 
-module _ (window out : List ℕ) (last line begun : Bool) (put : ℕ) (stop : Stop)
-    (is-begun : begun ≡ true) (is-going : stop ≡ Going) (enough : lineRoom ≤ length out - put) where
+module _ (window out : List ℕ) (last line : Bool) (seen : Seen) (put : ℕ) (stop : Stop)
+    (after-setup : seen .setup ≡ true) (is-going : stop ≡ Going) (enough : lineRoom ≤ length out - put) where
   -- a run among words
   abbrev pub among : ℕ → Card → ℕ → ℕ → Passed
   among at old fields offset =
       record {
-        tray = record { begun = begun; card = old; fields = fields; offset = offset };
+        tray = record { seen = seen; card = old; fields = fields; offset = offset };
         at = at;
         put = put;
         out = out;
@@ -94,13 +98,12 @@ module _ (window out : List ℕ) (last line begun : Bool) (put : ℕ) (stop : St
       → turn window last (among at old fields offset)
       ≡ among next (step (word (wordOf (marksOn line) value (timeAt window (at + 6)))) old .card)
       (counted (fields + 1)) (counted (offset + 10))
-  unfolding turn passing takes taking takingLine happened happeningOf step
+  unfolding turn passing takes taking takingLine happened happeningOf valuedAt step
   word-is-turn at old fields offset value next is =
       let ten : next - at ≡ 10 = omega (arith, found-next window line at value next is) in
       rw (
         le-ltb (length out - put) lineRoom enough,
-        is-begun,
-        found-is-read window at (marksOn line) (marks-few line) is,
+        found-is-read window at (marksOn line) (marks-few line) seen after-setup is,
         words-are-silent (wordOf (marksOn line) value (timeAt window (at + 6))) old,
         ten,
         ← nothing-written out put,

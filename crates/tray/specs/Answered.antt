@@ -2,7 +2,6 @@
 -- it is at the end of the bytes or refuses a field; the lines of the fields are printed, and one
 -- last line. Definitions only; proved in `proofs/AnswerLaws`. Assumes nothing.
 use mathlib.Core.Path.{_≡_}
-use mathlib.Core.Bool.{true}
 use mathlib.Core.List.{List, [], _∷_, _++_}
 use Prim.Native.Nat.{ℕ, _+_}
 use lib.ListN.{length}
@@ -10,10 +9,11 @@ use Rattle.terminal.specs.State.{Card}
 use Rattle.recording.specs.declared.reading.Reading.{Reading}
 use Rattle.recording.specs.declared.reading.Reading.the-variants.{End, Refused}
 use Rattle.recording.specs.Reading.{readAt}
+use Rattle.recording.specs.Value.{Valued}
+use Rattle.recording.specs.Accepted.{TakesFields, seenAfterAll}
 use Rattle.lines.specs.Lines.{endLine, refusalLine}
-use Rattle.tray.specs.Happening.{Happening, happened}
+use Rattle.tray.specs.Happening.{Happening, happenings, happened}
 use Rattle.tray.specs.Run.{Tray, counted, shownLine, whole, wholeFrom}
-use Rattle.tray.specs.Accepted.{TakesFields, begunAfter}
 
 -- the lines of what fields tell, one after the other
 unfoldable pub toldLines : List Happening → Card → List ℕ
@@ -27,13 +27,13 @@ toldCard [] old = old
 toldCard (told ∷ rest) old = toldCard rest (happened told old .card)
 
 -- how far a run has come after fields that are so many bytes long
-unfoldable pub trayAfter : Tray → ℕ → List Happening → Tray
+unfoldable pub trayAfter : Tray → ℕ → List Valued → Tray
 trayAfter start size [] = start
-trayAfter start size (told ∷ rest) =
+trayAfter start size (field ∷ rest) =
     record {
-      begun = true;
-      card = toldCard (told ∷ rest) (start .card);
-      fields = counted (start .fields + length (told ∷ rest));
+      seen = seenAfterAll (field ∷ rest) (start .seen);
+      card = toldCard (happenings (field ∷ rest)) (start .card);
+      fields = counted (start .fields + length (field ∷ rest));
       offset = counted (start .offset + size);
     }
 
@@ -50,19 +50,20 @@ pub data LastLine (after : Tray) : Reading → List ℕ → Type 0 where
 pub record Answered (start : Tray) (bytes : List ℕ) : Type 0 where
   pub front : List ℕ
   pub left : List ℕ
-  pub told : List Happening
+  pub fields : List Valued
   pub line : List ℕ
   pub parts : bytes ≡ front ++ left
-  pub takes : TakesFields (start .begun) bytes told left
-  pub last : LastLine (trayAfter start (length front) told)
-      (readAt left 0 (begunAfter (start .begun) told)) line
+  pub takes : TakesFields (start .seen) bytes fields left
+  pub last : LastLine (trayAfter start (length front) fields)
+      (readAt left 0 (seenAfterAll fields (start .seen))) line
   pub run : wholeFrom start bytes
-      ≡ whole (toldLines told (start .card) ++ line) (trayAfter start (length front) told)
+      ≡ whole (toldLines (happenings fields) (start .card) ++ line)
+      (trayAfter start (length front) fields)
 
 -- the claim of `answered-once`: two answers to the same bytes are the same
 pub record SameAnswer {start : Tray} {bytes : List ℕ} (one other : Answered start bytes) : Type 0
   where
-    pub told : one .told ≡ other .told
+    pub fields : one .fields ≡ other .fields
     pub front : one .front ≡ other .front
     pub left : one .left ≡ other .left
     pub line : one .line ≡ other .line

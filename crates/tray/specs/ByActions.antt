@@ -30,14 +30,16 @@ use Rattle.recording.specs.declared.field.Field.the-variants.{
   Setup,
   Word,
   Silence,
-  QueueRead,
+  ReadQueue,
   HostWrite,
-  Table,
-  Flags,
+  MoveTable,
+  SetFlags,
 }
 use Rattle.recording.specs.declared.reading.Reading.the-variants.{Taken, End, Refused}
-use Rattle.recording.specs.Bytes.{byteAt, wordAt, wordsAt}
+use Rattle.recording.specs.Bytes.{wordAt, wordsAt}
+use Rattle.recording.specs.Tag.{tagAt}
 use Rattle.recording.specs.Field.{fieldAt}
+use Rattle.recording.specs.Seen.{seenAfter}
 use Rattle.recording.specs.Reading.{readAt}
 use Rattle.tray.specs.Run.{Tray, counted, shownLine, lastLine, Whole, whole, withLine}
 use Rattle.tray.specs.Sound.{SoundTray}
@@ -60,17 +62,17 @@ unfoldable pub actionOf : List ℕ → Field → Card → After
 actionOf bytes (Setup station table flags) = setUp (setupAction station table flags)
 actionOf bytes (Word marks value time) = wordAction marks value time
 actionOf bytes (Silence line time) = silenceAction line time
-actionOf bytes QueueRead = onTerminal readQueueAction
+actionOf bytes ReadQueue = onTerminal readQueueAction
 actionOf bytes (HostWrite address first count) =
     hostWriteAction address (wordsAt bytes first count)
-actionOf bytes (Table table) = onTerminal (moveTableAction table)
-actionOf bytes (Flags flags) = onTerminal (setFlagsAction flags)
+actionOf bytes (MoveTable table) = onTerminal (moveTableAction table)
+actionOf bytes (SetFlags flags) = onTerminal (setFlagsAction flags)
 
 -- ---- a field that is refused
 
 -- the field at the front of the bytes, by its tag and its length
 abbrev pub firstField : List ℕ → Field
-firstField bytes = fieldAt bytes (byteAt bytes 0) 3 (wordAt bytes 1)
+firstField bytes = fieldAt bytes (tagAt bytes 0) 3 (wordAt bytes 1)
 
 -- the reader's numbers for what a field holds; its others are for how the field stands in the bytes
 abbrev pub isForValue : ℕ → Bool
@@ -79,10 +81,10 @@ isForValue number = eqb number 2 || eqb number 3 || eqb number 8
 -- ---- the run
 
 -- a field was taken that left this card, and the next begins so many bytes further on
-abbrev pub trayWith : Card → ℕ → Tray → Tray
-trayWith new size old =
+abbrev pub trayWith : Field → Card → ℕ → Tray → Tray
+trayWith field new size old =
     record {
-      begun = true;
+      seen = seenAfter field (old .seen);
       card = new;
       fields = counted (old .fields + 1);
       offset = counted (old .offset + size);
@@ -96,19 +98,19 @@ pub data ByActions : Tray → List ℕ → Whole → Type 0 where
   acts : {old : Tray} {bytes : List ℕ} {field : Field} {next : ℕ} {answer : Answer} {new : Card}
       {rest : Whole}
       → SoundTray old
-      → readAt bytes 0 (old .begun) ≡ Taken field next
+      → readAt bytes 0 (old .seen) ≡ Taken field next
       → actionOf bytes field (old .card) ≡ after 0 answer new
-      → ByActions (trayWith new next old) (drop next bytes) rest
+      → ByActions (trayWith field new next old) (drop next bytes) rest
       → ByActions old bytes (withLine (shownLine (shown new answer)) rest)
   -- the end of the bytes
   ends : {old : Tray} {bytes : List ℕ}
       → SoundTray old
-      → readAt bytes 0 (old .begun) ≡ End
+      → readAt bytes 0 (old .seen) ≡ End
       → ByActions old bytes (whole (lastLine 0 (old .fields) (old .offset)) old)
   -- a field that the reader refuses: if for what it holds, its action refuses it by that number
   refuses : {old : Tray} {bytes : List ℕ} {number place : ℕ}
       → SoundTray old
-      → readAt bytes 0 (old .begun) ≡ Refused number place
+      → readAt bytes 0 (old .seen) ≡ Refused number place
       → (isForValue number ≡ true
       → actionOf bytes (firstField bytes) (old .card) .refusal ≡ number)
       → ByActions old bytes (whole (lastLine number (old .fields) (old .offset)) old)

@@ -1,6 +1,6 @@
 -- What a field tells, and what comes of it: setup, or an event of the terminal. Definitions only.
 -- Assumes nothing.
-use mathlib.Core.List.{List}
+use mathlib.Core.List.{List, [], _∷_}
 use Prim.Native.Nat.{ℕ}
 use lib.Dec.{eqb}
 use Rattle.card.specs.Memory.{theBlock}
@@ -22,32 +22,27 @@ use Rattle.terminal.specs.Event.{
 }
 use Rattle.terminal.specs.Machine.{step}
 use Rattle.bus.specs.Word.{wordOf}
-use Rattle.recording.specs.declared.field.Field.{Field}
-use Rattle.recording.specs.declared.field.Field.the-variants.{
-  Setup,
-  Word,
-  Silence,
-  QueueRead,
-  HostWrite,
-  Table,
-  Flags,
-}
-use Rattle.recording.specs.Bytes.{wordsAt}
+use Rattle.recording.specs.Value.{Valued}
+use Rattle.recording.specs.Value as field
 
 pub data Happening : Type 0 where
   setup : ℕ → ℕ → ℕ → Happening
   event : Event → Happening
 
--- what a field of these bytes tells
-unfoldable pub happeningOf : List ℕ → Field → Happening
-happeningOf bytes (Setup station table flags) = setup station table flags
-happeningOf bytes (Word marks value time) = event (word (wordOf marks value time))
-happeningOf bytes (Silence line time) = event (silence (eqb line 1) time)
-happeningOf bytes QueueRead = event queueRead
-happeningOf bytes (HostWrite address first count) =
-    event (hostWrite address (wordsAt bytes first count))
-happeningOf bytes (Table table) = event (tableMove (theBlock table))
-happeningOf bytes (Flags flags) = event (flagsWrite flags)
+-- what a field tells
+unfoldable pub happeningOf : Valued → Happening
+happeningOf (field.setup station table flags) = setup station table flags
+happeningOf (field.word marks value time) = event (word (wordOf marks value time))
+happeningOf (field.silence line time) = event (silence (eqb line 1) time)
+happeningOf field.readQueue = event queueRead
+happeningOf (field.hostWrite address words) = event (hostWrite address words)
+happeningOf (field.moveTable table) = event (tableMove (theBlock table))
+happeningOf (field.setFlags flags) = event (flagsWrite flags)
+
+-- what fields tell, one by one
+unfoldable pub happenings : List Valued → List Happening
+happenings [] = []
+happenings (field ∷ rest) = happeningOf field ∷ happenings rest
 
 -- setup makes the terminal and leaves the RAM; an event is a step of it
 unfoldable pub happened : Happening → Card → Shown

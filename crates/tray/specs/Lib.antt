@@ -3,7 +3,7 @@
 --     Run          a run of a recording, its text and how far it comes
 --     Sound        a tray that no action of the library refuses by 1 or 4
 --     ByActions    a run by the library's actions
---     Accepted     what the reader takes of some bytes, and recordings that it takes whole
+--     Told         what the fields of accepted bytes tell
 --     Answered     an answer and an end: what a run makes of any bytes
 --     OneBlock     one broken message costs one block, over recordings
 --     AsCoded      how the code is cut: windows, rows, pieces
@@ -11,7 +11,7 @@ pub mod Happening
 pub mod Run
 pub mod Sound
 pub mod ByActions
-pub mod Accepted
+pub mod Told
 pub mod Answered
 pub mod OneBlock
 pub mod AsCoded

@@ -2,7 +2,7 @@
 -- that it prints, and the queue and the memory that it leaves. What is asked of the terminal, and
 -- which cells are excepted, is in the terminal's `OneBlock`. Definitions only. Assumes nothing.
 use mathlib.Core.Path.{_≡_}
-use mathlib.Core.Bool.{Bool, true, false}
+use mathlib.Core.Bool.{Bool, true}
 use mathlib.Core.List.{List, [], _∷_, _++_}
 use Prim.Native.Nat.{ℕ, _+_}
 use lib.ListN.{length}
@@ -20,10 +20,11 @@ use Rattle.terminal.specs.State.{Card, card, coreAtSetup}
 use Rattle.terminal.specs.Event.{Event, word, seen}
 use Rattle.terminal.specs.Machine.{step, run}
 use Rattle.terminal_laws.specs.OneBlock.{stillBefore, Alike, SameAfter, ThatBlock, BrokenMessage}
+use Rattle.recording.specs.Seen.{nothingSeen, setupSeen}
 use Rattle.lines.specs.Lines.{statusLine, endLine}
 use Rattle.tray.specs.Happening.{Happening, setup, event}
 use Rattle.tray.specs.Run.{counted, shownLine, trayOver, whole, wholeFrom}
-use Rattle.tray.specs.Accepted.{Accepted, Cut}
+use Rattle.tray.specs.Told.{Tells, CutTelling}
 
 -- ---- what recordings tell
 
@@ -87,7 +88,7 @@ module _ (ram : List ℕ) (station table flags : ℕ) where
       wholeFrom (trayOver ram) bytes
       ≡ whole (textOf sooner later)
       (record {
-        begun = true;
+        seen = setupSeen;
         card = cardAfter (sooner ++ later);
         fields = counted (1 + length (sooner ++ later));
         offset = counted (length bytes);
@@ -103,9 +104,9 @@ module _ (ram : List ℕ) (station table flags : ℕ) where
     -- command, one stretch or the other, and then the same events; and what they tell is as the
     -- terminal's theorem asks
     pub record BrokenRecording : Type 0 where
-      pub one-accepted : Accepted false one
+      pub one-accepted : Tells nothingSeen one
           (setup station table flags ∷ events (upTo earlier heard told-one ++ later))
-      pub two-accepted : Accepted false two
+      pub two-accepted : Tells nothingSeen two
           (setup station table flags ∷ events (upTo earlier heard told-two ++ later))
       pub broken : BrokenMessage (cardAfter earlier) heard told-one told-two later
 
@@ -128,8 +129,8 @@ module _ (ram : List ℕ) (station table flags : ℕ) where
   -- the parts before
   pub record SameUpTo (one two : List ℕ) (earlier : List Event) (heard : Word)
       (told-one told-two now rest : List Event) : Type 0 where
-    pub cut-one : Cut false one
+    pub cut-one : CutTelling nothingSeen one
         (setup station table flags ∷ events (upTo earlier heard told-one ++ now)) (events rest)
-    pub cut-two : Cut false two
+    pub cut-two : CutTelling nothingSeen two
         (setup station table flags ∷ events (upTo earlier heard told-two ++ now)) (events rest)
     pub same : SameRecordings (cut-one .front) (cut-two .front) earlier heard told-one told-two now

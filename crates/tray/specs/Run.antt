@@ -1,10 +1,11 @@
 -- A tray run: the fields of a recording one by one over the terminal, and the lines that are
 -- printed. Definitions only. Assumes nothing.
-use mathlib.Core.Bool.{Bool, true, false, cond}
+use mathlib.Core.Bool.{cond}
 use mathlib.Core.List.{List, [], _∷_, _++_}
 use Prim.Native.Nat.{ℕ, zero, suc, _+_, _%_, _^_}
 use lib.Dec.{eqb}
 use lib.ListN.{length, drop, replicate}
+use Rattle.bus.specs.Limits.{allStations}
 use Rattle.card.specs.Memory.{cardWords, theBlock}
 use Rattle.queue.specs.Queue.{emptyQueue}
 use Rattle.terminal.specs.declared.state.Reply.{Reply}
@@ -14,26 +15,29 @@ use Rattle.terminal.specs.State.{Card, card, coreAtSetup}
 use Rattle.terminal.specs.Reply.{replyWords}
 use Rattle.terminal.specs.Event.{Shown}
 use Rattle.recording.specs.declared.field.Field.{Field}
+use Rattle.recording.specs.declared.seen.Seen.{Seen}
 use Rattle.recording.specs.declared.reading.Reading.{Reading}
 use Rattle.recording.specs.declared.reading.Reading.the-variants.{Taken, End, Refused}
+use Rattle.recording.specs.Seen.{nothingSeen, seenAfter}
 use Rattle.recording.specs.Reading.{readAt}
+use Rattle.recording.specs.Value.{valuedAt}
 use Rattle.lines.specs.Lines.{statusLine, queueLine, endLine, refusalLine}
 use Rattle.tray.specs.Happening.{happeningOf, happened}
 
--- how far a run has come: whether a setup has been read, the terminal and the card memory, how many
+-- how far a run has come: what the reader has seen, the terminal and the card memory, how many
 -- fields were taken, and where in the recording the next one begins
 pub record Tray : Type 0 where
-  pub begun : Bool
+  pub seen : Seen
   pub card : Card
   pub fields : ℕ
   pub offset : ℕ
 
--- before the first field, over a memory; no station has number 31
+-- before the first field, over a memory: the terminal is of no station
 unfoldable pub trayOver : List ℕ → Tray
 trayOver ram =
     record {
-      begun = false;
-      card = card (coreAtSetup 31 (theBlock 0) 0) emptyQueue ram;
+      seen = nothingSeen;
+      card = card (coreAtSetup allStations (theBlock 0) 0) emptyQueue ram;
       fields = 0;
       offset = 0;
     }
@@ -79,15 +83,15 @@ lastLine number fields offset =
 unfoldable pub taking : List ℕ → Field → ℕ → Tray → Tray
 taking bytes field size old =
     record {
-      begun = true;
-      card = happened (happeningOf bytes field) (old .card) .card;
+      seen = seenAfter field (old .seen);
+      card = happened (happeningOf (valuedAt bytes field)) (old .card) .card;
       fields = counted (old .fields + 1);
       offset = counted (old .offset + size);
     }
 
 -- what the field prints
 unfoldable pub takingLine : List ℕ → Field → Tray → List ℕ
-takingLine bytes field old = shownLine (happened (happeningOf bytes field) (old .card))
+takingLine bytes field old = shownLine (happened (happeningOf (valuedAt bytes field)) (old .card))
 
 -- what a run makes of the bytes of a recording: the text that it prints, and how far it has come
 -- then
@@ -114,7 +118,7 @@ wholeOf (Refused number place) rest old bytes =
 -- in so many fields at the most
 unfoldable pub wholeBy : ℕ → Tray → List ℕ → Whole
 wholeBy zero old bytes = whole [] old
-wholeBy (suc fields) old bytes = wholeOf (readAt bytes 0 (old .begun)) (wholeBy fields) old bytes
+wholeBy (suc fields) old bytes = wholeOf (readAt bytes 0 (old .seen)) (wholeBy fields) old bytes
 
 -- of the bytes that are left; they hold fewer fields than bytes
 unfoldable pub wholeFrom : Tray → List ℕ → Whole

@@ -9,4 +9,4 @@ use Rattle.tray.specs.Run.{Tray}
 -- the memory is the card's 16,384 words and, once a setup has been read, the terminal is fit
 pub record SoundTray (old : Tray) : Type 0 where
   pub whole-memory : length (old .card .ram) ≡ cardWords
-  pub fit : old .begun ≡ true → fitCard (old .card) ≡ true
+  pub fit : old .seen .setup ≡ true → fitCard (old .card) ≡ true

@@ -6,10 +6,12 @@ ghost use Rattle.terminal.specs.declared.state.Reply.the-variants.{Silent};
 ghost use Rattle.terminal.specs.State.{cardOf};
 ghost use Rattle.terminal.specs.Event.{shown, replied};
 ghost use Rattle.recording.specs.Bytes.{wordsAt};
+ghost use Rattle.recording.specs.Value.{valuedAt};
 ghost use Rattle.tray.specs.Happening.{happeningOf, happened};
 ghost use Rattle.tray.specs.AsCoded.Held.{WordsIn, WordsThere};
 use bus::word;
 use card::host;
+use card::place::Block;
 use queue::Ring;
 use recording;
 use recording::Field;
@@ -74,7 +76,7 @@ pub(crate) fn happen(
     requires { ⌜ WordsThere (now window) field ⌝ }
     ensures { λ left. ⌜ shown (cardOf (left .held) (now (places .exit)) (now (ram .exit)))
         (left .answer)
-        ≡ happened (happeningOf (now (window .entry)) field)
+        ≡ happened (happeningOf (valuedAt (now (window .entry)) field))
         (cardOf held (now (places .entry)) (now (ram .entry))) ⌝ }
 {
     let core = held.core;
@@ -86,7 +88,8 @@ pub(crate) fn happen(
             flags,
         } => {
             let next = empty_ring(places);
-            let new = Core::at_setup(station as u16, table as u16, flags as u16);
+            let number = table as u16;
+            let new = Core::at_setup(station as u16, Block(number), flags as u16);
             silently(new, next)
         }
         Field::Word { marks, value, time } => {
@@ -106,7 +109,7 @@ pub(crate) fn happen(
                 answer: Answer::Replied(reply),
             }
         }
-        Field::QueueRead => {
+        Field::ReadQueue => {
             let taken = ring.read(places);
             let left = taken.ring;
             Happened {
@@ -125,11 +128,12 @@ pub(crate) fn happen(
             write_words(ram, window, address, first, count);
             silently(core, ring)
         }
-        Field::Table { table } => {
-            let moved = core.move_table(table as u16);
+        Field::MoveTable { table } => {
+            let number = table as u16;
+            let moved = core.move_table(Block(number));
             silently(moved, ring)
         }
-        Field::Flags { flags } => {
+        Field::SetFlags { flags } => {
             let set = core.set_flags(flags as u16);
             silently(set, ring)
         }

@@ -63,13 +63,14 @@ fn after_row(ran: Ran, message: OpenMessage, end: Reach, words: u16) -> Ran
     let ring = held.ring;
     let row = end.row;
     let stop = ran.stop;
+    let seen = run.seen;
     Ran {
         run: Run {
             held: Held {
                 core: core.after_row(message, row),
                 ring: ring,
             },
-            begun: run.begun,
+            seen: seen,
             fields: num::wrapping_add_u64(run.fields, words as u64),
             offset: num::wrapping_add_u64(run.offset, 10 * (words as u64)),
         },
@@ -95,7 +96,7 @@ pub(crate) fn take_row(ran: Ran, ram: &mut [u16], window: &[u8], room: usize, mo
         };
     };
     let row = Row::of(message);
-    let able = run.begun & (lines::LINE_ROOM <= room) & (32 < most) & (row.taken < row.wanted);
+    let able = run.seen.setup & (lines::LINE_ROOM <= room) & (32 < most) & (row.taken < row.wanted);
     if !able {
         return Rowed {
             ran: ran,

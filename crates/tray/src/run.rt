@@ -1,15 +1,18 @@
 // How far a run has come, and where it begins.
 ghost use mathlib.Core.Path.{_≡_};
 ghost use Rattle.tray.specs.AsCoded.Held.{runAtStart};
+use bus::limits::ALL_STATIONS;
+use card::place::Block;
 use queue::Ring;
+use recording::Seen;
 use terminal::state::Core;
 use terminal::state::Held;
 
 // How far a run has come. The queue's places and the RAM are lent.
 pub struct Run {
     pub held: Held,
-    // a setup has been read
-    pub begun: bool,
+    // what the reader has seen
+    pub seen: Seen,
     // how many fields were taken
     pub fields: u64,
     // where in the recording the next one begins
@@ -17,11 +20,11 @@ pub struct Run {
 }
 
 impl Run {
-    // Before the first field. No station has number 31.
+    // Before the first field: the core is of no station.
     pub fn at_start() -> Run
         ensures { λ run. ⌜ run ≡ runAtStart ⌝ }
     {
-        let core = Core::at_setup(31, 0, 0);
+        let core = Core::at_setup(ALL_STATIONS, Block(0), 0);
         let ring = Ring {
             start: 0,
             count: 0,
@@ -32,7 +35,7 @@ impl Run {
                 core: core,
                 ring: ring,
             },
-            begun: false,
+            seen: Seen::nothing(),
             fields: 0,
             offset: 0,
         }

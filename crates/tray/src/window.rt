@@ -95,10 +95,12 @@ fn take_field(
     let size = (next - ran.at) as u64;
     let fields = num::wrapping_add_u64(run.fields, 1);
     let offset = num::wrapping_add_u64(run.offset, size);
+    let before = run.seen;
+    let seen = before.after(field);
     Ran {
         run: Run {
             held: held,
-            begun: true,
+            seen: seen,
             fields: fields,
             offset: offset,
         },
@@ -146,7 +148,8 @@ fn turn(
         return ran.with_stop(ran.put, Stop::Full);
     }
     let run = ran.run;
-    let reading = recording::read_field(window, ran.at, run.begun);
+    let seen = run.seen;
+    let reading = recording::read_field(window, ran.at, seen);
     match reading {
         Reading::Taken { field, next } => { take_field(ran, places, ram, window, out, field, next) }
         Reading::End => {

@@ -204,9 +204,9 @@ of-terminal held places =
 of-state : (run : Run) (places : List ℕ)
     → AtMost (437 + 21 * run .held .ring .count) (stateText run places)
 unfolding stateText
-of-state run places = go (run .begun) where
-  go : (begun : Bool) → AtMost (437 + 21 * run .held .ring .count)
-      (cond begun (terminalText (run .held) places) (bytes "terminal none\n"))
+of-state run places = go (run .seen .setup) where
+  go : (setup : Bool) → AtMost (437 + 21 * run .held .ring .count)
+      (cond setup (terminalText (run .held) places) (bytes "terminal none\n"))
   go true = weaker (of-terminal (run .held) places) (omega arith)
   go false = record { bound = omega arith }
 

@@ -112,17 +112,17 @@ module _ {out : List ℕ} {at : ℕ} {after : List ℕ} {next : ℕ} where
   unfolding waitingText
   waiting-none places ring none fits = rw none fits
 
-  pub state-none : (run : Run) (places : List ℕ) → run .begun ≡ false
+  pub state-none : (run : Run) (places : List ℕ) → run .seen .setup ≡ false
       → Fits out at (bytes "terminal none\n") after next
       → put next after ≡ fitted out at (stateText run places)
   unfolding stateText
   state-none run places is fits = rw is (fits .is-fitted)
 
-  pub state-begun : (run : Run) (places : List ℕ) → run .begun ≡ true
+  pub state-some : (run : Run) (places : List ℕ) → run .seen .setup ≡ true
       → Fits out at (terminalText (run .held) places) after next
       → put next after ≡ fitted out at (stateText run places)
   unfolding stateText
-  state-begun run places is fits = rw is (fits .is-fitted)
+  state-some run places is fits = rw is (fits .is-fitted)
 
 -- ---- part after part
 

@@ -155,4 +155,4 @@ terminalText held places =
 -- before a setup was taken there is no terminal
 unfoldable pub stateText : Run → List ℕ → List ℕ
 stateText run places =
-    cond (run .begun) (terminalText (run .held) places) (bytes "terminal none\n")
+    cond (run .seen .setup) (terminalText (run .held) places) (bytes "terminal none\n")

@@ -275,7 +275,8 @@ pub fn put_state(out: &mut [u8], at: usize, run: Run, places: &[u16; 256]) -> us
         ≡ fitted (now (out .entry)) at (stateText run (now (places .entry))) ⌝ }
 {
     let held = run.held;
-    if run.begun {
+    let seen = run.seen;
+    if seen.setup {
         return put_terminal(out, at, held, places);
     }
     text::put_text(out, at, b"terminal none\n")

@@ -7,11 +7,12 @@ use lib.Dec.{eqb, leb}
 use Rattle.recording.specs.declared.words.Found.{Found}
 use Rattle.recording.specs.declared.words.Found.the-variants.{Value, Nothing}
 use Rattle.recording.specs.Bytes.{bytesLeft, byteAt, wordAt}
+use Rattle.recording.specs.Tag.{wordTag}
 
--- tag 02, length 7 and these marks
+-- the tag of a word, length 7 and these marks
 abbrev pub startsWord : List ℕ → ℕ → ℕ → Bool
 startsWord bytes place marks =
-    eqb (byteAt bytes place) 2
+    eqb (byteAt bytes place) wordTag
     && eqb (byteAt bytes (place + 1)) 0 && eqb (byteAt bytes (place + 2)) 7
     && eqb (byteAt bytes (place + 3)) marks
 

@@ -7,10 +7,10 @@ use Rattle.recording.specs.declared.field.Field.the-variants.{
   Setup,
   Word,
   Silence,
-  QueueRead,
+  ReadQueue,
   HostWrite,
-  Table,
-  Flags,
+  MoveTable,
+  SetFlags,
 }
 use Rattle.recording.specs.declared.reading.Reading.{Reading}
 use Rattle.recording.specs.declared.reading.Reading.the-variants.{Taken, End, Refused}
@@ -26,10 +26,10 @@ abbrev pub shiftedField : ℕ → Field → Field
 shiftedField start (Setup station table flags) = Setup station table flags
 shiftedField start (Word marks value time) = Word marks value time
 shiftedField start (Silence line time) = Silence line time
-shiftedField start QueueRead = QueueRead
+shiftedField start ReadQueue = ReadQueue
 shiftedField start (HostWrite address first count) = HostWrite address (start + first) count
-shiftedField start (Table table) = Table table
-shiftedField start (Flags flags) = Flags flags
+shiftedField start (MoveTable table) = MoveTable table
+shiftedField start (SetFlags flags) = SetFlags flags
 
 -- a reading with every place counted from `start` bytes earlier
 abbrev pub shifted : ℕ → Reading → Reading

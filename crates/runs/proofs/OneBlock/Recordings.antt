@@ -1,19 +1,23 @@
 -- The theorem over recordings at work: document 01's recording beside the same with its second data
 -- word unsound, both followed by the same fields. Assumes nothing.
 use mathlib.Core.Path.{_≡_, refl}
-use mathlib.Core.Bool.{true, false}
 use mathlib.Core.List.{List, [], _∷_, _++_}
 use Prim.Native.Nat.{ℕ}
 use lib.ListN.{getD, replicate}
 use Rattle.card.specs.Memory.{cardWords, theBlock}
 use Rattle.terminal.specs.Event.{Event, hostWrite, word}
 use Rattle.terminal_laws.specs.OneBlock.{Alike, ThatBlock}
-use Rattle.recording.specs.Field.{lengthFits, fieldAt}
+use Rattle.recording.specs.Tag.{tagOf, lengthFits}
+use Rattle.recording.specs.Field.{fieldAt}
+use Rattle.recording.specs.declared.seen.Seen.{Seen}
+use Rattle.recording.specs.Seen.{nothingSeen, setupSeen}
 use Rattle.recording.specs.Reading.{readAt}
+use Rattle.recording.specs.Value.{Valued, valuedAt}
+use Rattle.recording.specs.Accepted.{no-more, a-field, Accepted}
 use Rattle.lines.specs.Lines.{statusLine, queueLine, endLine}
 use Rattle.runs.proofs.Telling.{runs}
 use Rattle.runs.proofs.OneBlock.Unsound.{met, command, sound, unsound, after, all-holds}
-use Rattle.tray.specs.Happening.{setup, event, happeningOf, happened}
+use Rattle.tray.specs.Happening.{Happening, setup, event, happeningOf, happenings, happened}
 use Rattle.tray.specs.Run.{
   trayAtStart,
   lastLine,
@@ -24,7 +28,7 @@ use Rattle.tray.specs.Run.{
   wholeFrom,
   printed,
 }
-use Rattle.tray.specs.Accepted.{no-more, a-field, Accepted}
+use Rattle.tray.specs.Told.{Tells}
 use Rattle.tray.specs.OneBlock.{events, cardAfter, BrokenRecording, SameRecordings}
 use Rattle.tray.proofs.OneBlock.Theorem.{whole-accepted, one-block-recordings}
 
@@ -78,7 +82,7 @@ unsound-recording = before-bytes ++ (command-bytes ++ (unsound-bytes ++ after-by
 -- to unfold `bytes` is to unfold these, and what reads them
 unfoldable bytes : ℕ
 unfolding before-bytes wordBytes silenceBytes readBytes command-bytes sound-bytes unsound-bytes
-    after-bytes readAt lengthFits fieldAt happeningOf events
+    after-bytes readAt tagOf lengthFits fieldAt valuedAt happeningOf happenings events
 bytes = 0
 
 -- ---- all that is asked holds
@@ -90,27 +94,33 @@ zeros = replicate cardWords 0
 abbrev earlier : List Event
 earlier = hostWrite 0x0043 (0x4002 ∷ []) ∷ hostWrite 0x00BF (0x4003 ∷ []) ∷ []
 
-before-accepted : Accepted false before-bytes (setup 5 1 0 ∷ events earlier)
-unfolding bytes
-before-accepted = a-field refl (a-field refl (a-field refl no-more))
+-- accepted fields, and what they tell
+tells : {seen : Seen} {bytes : List ℕ} {fields : List Valued} {told : List Happening}
+    → Accepted seen bytes fields → happenings fields ≡ told → Tells seen bytes told
+tells {fields = fields} accepted are =
+    record { fields = fields; accepted = accepted; are = are }
 
-command-accepted : Accepted true command-bytes (event (word command) ∷ [])
+before-accepted : Tells nothingSeen before-bytes (setup 5 1 0 ∷ events earlier)
 unfolding bytes
-command-accepted = a-field refl no-more
+before-accepted = tells (a-field refl (a-field refl (a-field refl no-more))) refl
 
-sound-accepted : Accepted true sound-bytes (events sound)
+command-accepted : Tells setupSeen command-bytes (event (word command) ∷ [])
 unfolding bytes
-sound-accepted = a-field refl (a-field refl (a-field refl no-more))
+command-accepted = tells (a-field refl no-more) refl
 
-unsound-accepted : Accepted true unsound-bytes (events unsound)
+sound-accepted : Tells setupSeen sound-bytes (events sound)
 unfolding bytes
-unsound-accepted = a-field refl (a-field refl (a-field refl no-more))
+sound-accepted = tells (a-field refl (a-field refl (a-field refl no-more))) refl
 
-after-accepted : Accepted true after-bytes (events after)
+unsound-accepted : Tells setupSeen unsound-bytes (events unsound)
+unfolding bytes
+unsound-accepted = tells (a-field refl (a-field refl (a-field refl no-more))) refl
+
+after-accepted : Tells setupSeen after-bytes (events after)
 unfolding bytes
 after-accepted =
-    a-field refl (a-field refl (a-field refl (a-field refl (a-field refl
-    (a-field refl (a-field refl (a-field refl (a-field refl (a-field refl no-more)))))))))
+    tells (a-field refl (a-field refl (a-field refl (a-field refl (a-field refl
+    (a-field refl (a-field refl (a-field refl (a-field refl (a-field refl no-more)))))))))) refl
 
 all-asked-holds : BrokenRecording zeros 5 1 0 sound-recording unsound-recording
     earlier command sound unsound after

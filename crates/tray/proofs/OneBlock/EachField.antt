@@ -1,7 +1,6 @@
 -- The theorem at the end of each later field: `one-block-each-field`. Two recordings that are cut
 -- there are two such recordings, so that runs of them print and leave the same. Assumes nothing.
 use mathlib.Core.Path.{sym, ap, subst, _∙_}
-use mathlib.Core.Bool.{false}
 use mathlib.Core.List.{List, [], _∷_, _++_, append-assoc}
 use Prim.Native.Nat.{ℕ}
 use Rattle.bus.specs.declared.word.Word.{Word}
@@ -10,10 +9,11 @@ use Rattle.terminal.specs.State.{Card}
 use Rattle.terminal.specs.Event.{Event}
 use Rattle.terminal.specs.Machine.{step}
 use Rattle.terminal_laws.specs.OneBlock.{Settled, closed, superseded, Spared, BrokenMessage}
+use Rattle.recording.specs.Seen.{nothingSeen}
 use Rattle.tray.specs.Happening.{Happening, setup}
-use Rattle.tray.specs.Accepted.{Accepted, Cut}
+use Rattle.tray.specs.Told.{Tells, CutTelling}
 use Rattle.tray.specs.OneBlock.{events, upTo, cardAfter, BrokenRecording, SameUpTo}
-use Rattle.tray.proofs.CutLaws.{cut-at-field}
+use Rattle.tray.proofs.ToldLaws.{cut-telling}
 use Rattle.tray.proofs.OneBlock.Printing.{events-of-append}
 use Rattle.tray.proofs.OneBlock.Theorem.{one-block-recordings}
 
@@ -48,13 +48,14 @@ broken-sooner old heard one two told now rest broken =
 
 -- a recording cut there
 cut-there : {bytes : List ℕ} (station table flags : ℕ) (sooner now rest : List Event)
-    → Accepted false bytes (setup station table flags ∷ events (sooner ++ (now ++ rest)))
-    → Cut false bytes (setup station table flags ∷ events (sooner ++ now)) (events rest)
-cut-there {bytes} station table flags sooner now rest accepted =
-    cut-at-field (setup station table flags ∷ events (sooner ++ now)) (events rest)
-    (subst (λ (told : List Happening). Accepted false bytes (setup station table flags ∷ told))
+    → Tells nothingSeen bytes (setup station table flags ∷ events (sooner ++ (now ++ rest)))
+    → CutTelling nothingSeen bytes (setup station table flags ∷ events (sooner ++ now))
+    (events rest)
+cut-there {bytes} station table flags sooner now rest tells =
+    cut-telling (setup station table flags ∷ events (sooner ++ now)) (events rest)
+    (subst (λ (told : List Happening). Tells nothingSeen bytes (setup station table flags ∷ told))
     (ap events (sym (append-assoc sooner now rest)) ∙ events-of-append (sooner ++ now) rest)
-    accepted)
+    tells)
 
 module _ (ram : List ℕ) (station table flags : ℕ) (one two : List ℕ) (earlier : List Event)
     (heard : Word) (told-one told-two : List Event) (told : Event) (now rest : List Event) where
@@ -77,8 +78,8 @@ module _ (ram : List ℕ) (station table flags : ℕ) (one two : List ℕ) (earl
             one-block-recordings ram station table flags (cut-one .front) (cut-two .front) earlier
             heard told-one told-two (told ∷ now)
             (record {
-              one-accepted = cut-one .front-accepted;
-              two-accepted = cut-two .front-accepted;
+              one-accepted = cut-one .front-tells;
+              two-accepted = cut-two .front-tells;
               broken =
                   broken-sooner met heard told-one told-two told now rest (recordings .broken);
             });

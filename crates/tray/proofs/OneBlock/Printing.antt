@@ -1,7 +1,6 @@
 -- What a run makes of an accepted recording: the lines of its events one after the other, END with
 -- the number of its fields, and the card that its events leave. Assumes nothing.
 use mathlib.Core.Path.{_≡_, refl, sym, ap, _∙_}
-use mathlib.Core.Bool.{false}
 use mathlib.Core.List.{List, [], _∷_, _++_, append-assoc}
 use Prim.Native.Nat.{ℕ, suc, _+_}
 use native.Mathlib.Omega.{arith}
@@ -9,13 +8,14 @@ use lib.ListN.{length}
 use Rattle.terminal.specs.State.{Card}
 use Rattle.terminal.specs.Event.{Event}
 use Rattle.terminal.specs.Machine.{step, run}
+use Rattle.recording.specs.Seen.{nothingSeen}
 use Rattle.lines.specs.Lines.{endLine}
 use Rattle.tray.specs.Happening.{Happening, setup, event, happened}
 use Rattle.tray.specs.Run.{trayOver, counted, shownLine}
-use Rattle.tray.specs.Accepted.{Accepted}
-use Rattle.tray.specs.Answered.{toldLines, toldCard, trayAfter}
+use Rattle.tray.specs.Told.{Tells}
+use Rattle.tray.specs.Answered.{toldLines, toldCard}
 use Rattle.tray.specs.OneBlock.{events, lineOf, linesOf, cardAfter, RunsTo}
-use Rattle.tray.proofs.OnwardLaws.{accepted-run}
+use Rattle.tray.proofs.ToldRun.{telling-run}
 
 -- ---- fields that tell events
 
@@ -65,10 +65,10 @@ lines-of-append (told ∷ sooner) later old =
 
 module _ (ram : List ℕ) (station table flags : ℕ) where
   pub runs-to : (bytes : List ℕ) (sooner later : List Event)
-      → Accepted false bytes (setup station table flags ∷ events (sooner ++ later))
+      → Tells nothingSeen bytes (setup station table flags ∷ events (sooner ++ later))
       → RunsTo ram station table flags bytes sooner later
-  unfolding trayOver toldLines toldCard trayAfter happened cardAfter run
-  runs-to bytes sooner later accepted =
+  unfolding trayOver toldLines toldCard happened cardAfter run
+  runs-to bytes sooner later tells =
       let start = cardAfter ram station table flags [] in
       let all = sooner ++ later in
       let lines : toldLines (events all) start
@@ -77,7 +77,7 @@ module _ (ram : List ℕ) (station table flags : ℕ) where
       let count : counted (0 + suc (length (events all))) ≡ counted (1 + length all) =
       ap counted (omega (arith, length-of-events all)) in
       let offset : counted (0 + length bytes) ≡ counted (length bytes) = omega arith in
-      accepted-run (trayOver ram) accepted
+      telling-run (trayOver ram) tells
       ∙ rw (
         lines,
         card-of-events all start,

@@ -1,7 +1,7 @@
 -- One broken message costs one block, over recordings: `one-block-recordings`. A recording is
 -- accepted where its parts are (`whole-accepted`). Assumes nothing.
 use mathlib.Core.Path.{_≡_, sym, ap, subst, _∙_}
-use mathlib.Core.Bool.{Bool, true, false}
+use mathlib.Core.Bool.{true}
 use mathlib.Core.List.{List, [], _∷_, _++_, append-assoc}
 use Prim.Native.Nat.{ℕ}
 use lib.ListN.{replicate}
@@ -13,9 +13,10 @@ use Rattle.terminal.specs.Event.{Event, word}
 use Rattle.terminal.specs.Machine.{run}
 use Rattle.terminal_laws.specs.OneBlock.{Alike, SameAfter, Settled}
 use Rattle.terminal_laws.proofs.OneBlock.Theorem.{one-block}
+use Rattle.recording.specs.Seen.{nothingSeen, setupSeen}
 use Rattle.tray.specs.Happening.{Happening, setup, event}
 use Rattle.tray.specs.Run.{trayAtStart, Whole, printed}
-use Rattle.tray.specs.Accepted.{begunAfter, Accepted}
+use Rattle.tray.specs.Told.{Tells}
 use Rattle.tray.specs.OneBlock.{
   events,
   upTo,
@@ -26,7 +27,7 @@ use Rattle.tray.specs.OneBlock.{
   BrokenRecording,
   SameRecordings,
 }
-use Rattle.tray.proofs.AcceptedLaws.{begun-stays, accepted-then}
+use Rattle.tray.proofs.ToldLaws.{tells-first, tells-behind}
 use Rattle.tray.proofs.OneBlock.Printing.{events-of-append, run-of-append, runs-to}
 use Rattle.tray.proofs.OneBlock.Lines.{later-lines}
 use Rattle.tray.proofs.OneBlock.Ending.{left-alike}
@@ -47,22 +48,17 @@ module _ (station table flags : ℕ) (earlier : List Event) (heard : Word)
 
   -- the reader accepts it
   pub whole-accepted : {before command bytes after : List ℕ}
-      → Accepted false before (setup station table flags ∷ events earlier)
-      → Accepted true command (event (word heard) ∷ [])
-      → Accepted true bytes (events stretch) → Accepted true after (events later)
-      → Accepted false (before ++ (command ++ (bytes ++ after)))
+      → Tells nothingSeen before (setup station table flags ∷ events earlier)
+      → Tells setupSeen command (event (word heard) ∷ [])
+      → Tells setupSeen bytes (events stretch) → Tells setupSeen after (events later)
+      → Tells nothingSeen (before ++ (command ++ (bytes ++ after)))
       (setup station table flags ∷ events (upTo earlier heard stretch ++ later))
-  unfolding begunAfter
   whole-accepted {before} {command} {bytes} {after} first next between last =
-      let behind : Accepted true (bytes ++ after) (events stretch ++ events later) =
-      accepted-then between
-      (subst (λ (flag : Bool). Accepted flag after (events later))
-      (sym (begun-stays (events stretch))) last) in
       subst
-      (λ (told : List Happening). Accepted false (before ++ (command ++ (bytes ++ after)))
+      (λ (told : List Happening). Tells nothingSeen (before ++ (command ++ (bytes ++ after)))
       (setup station table flags ∷ told))
       told-whole
-      (accepted-then first (accepted-then next behind))
+      (tells-first first (tells-behind next (tells-behind between last)))
 
 -- ---- the theorem
 

@@ -3,12 +3,14 @@ use mathlib.Core.Path.{_≡_}
 use mathlib.Core.Bool.{false}
 use mathlib.Core.List.{List}
 use Prim.Native.Nat.{ℕ, _*_, _≤_}
+use Rattle.bus.specs.Limits.{allStations}
 use Rattle.card.specs.Memory.{theBlock}
 use Rattle.queue.specs.Queue.{ringOf}
 use Rattle.terminal.specs.State.{card, cardOf, coreAtSetup}
 use Rattle.recording.specs.declared.field.Field.{Field}
 use Rattle.recording.specs.declared.field.Field.the-variants.{HostWrite}
 use Rattle.recording.specs.Bytes.{bytesLeft}
+use Rattle.recording.specs.Seen.{nothingSeen}
 use Rattle.tray.specs.declared.run.Run.{Run}
 use Rattle.tray.specs.declared.window.Ran.{Ran}
 use Rattle.tray.specs.Run.{Tray}
@@ -18,18 +20,18 @@ use Rattle.tray.specs.AsCoded.Window.{Passed}
 abbrev pub trayOf : Run → List ℕ → List ℕ → Tray
 trayOf run places ram =
     record {
-      begun = run .begun;
+      seen = run .seen;
       card = cardOf (run .held) places ram;
       fields = run .fields;
       offset = run .offset;
     }
 
--- before the first field, over any memory: no station has number 31
+-- before the first field, over any memory: the core is of no station
 unfoldable pub runAtStart : Run
 runAtStart =
     record {
-      held = record { core = coreAtSetup 31 (theBlock 0) 0; ring = ringOf 0 0 false };
-      begun = false;
+      held = record { core = coreAtSetup allStations (theBlock 0) 0; ring = ringOf 0 0 false };
+      seen = nothingSeen;
       fields = 0;
       offset = 0;
     }

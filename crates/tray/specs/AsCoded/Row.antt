@@ -11,6 +11,7 @@ use Rattle.bus.specs.Word.{wordOf}
 use Rattle.message.specs.declared.state.OpenMessage.{OpenMessage}
 use Rattle.terminal.specs.declared.row.Row.{Row}
 use Rattle.terminal.specs.Row.{withTaken, withRow}
+use Rattle.recording.specs.declared.seen.Seen.{Seen}
 use Rattle.recording.specs.declared.words.Found.{Found}
 use Rattle.recording.specs.declared.words.Found.the-variants.{Value, Nothing}
 use Rattle.recording.specs.Bytes.{timeAt}
@@ -76,9 +77,9 @@ behindRow window line old =
 
 -- a row is taken after a setup, with room for a line, where turns are left for any row, and a word
 -- is wanted
-abbrev pub mayTakeRow : Bool → ℕ → ℕ → Row → Bool
-mayTakeRow begun room most row =
-    begun && leb lineRoom room && ltb mostWords most && ltb (row .taken) (row .wanted)
+abbrev pub mayTakeRow : Seen → ℕ → ℕ → Row → Bool
+mayTakeRow seen room most row =
+    seen .setup && leb lineRoom room && ltb mostWords most && ltb (row .taken) (row .wanted)
 
 -- the run behind a row of so many words for its open message
 unfoldable pub ranAfter : Ran → OpenMessage → Reach → ℕ → Ran
@@ -91,7 +92,7 @@ ranAfter old message end words =
               core = withTaken (end .row .taken) message (held .core);
               ring = held .ring;
             };
-            begun = old .run .begun;
+            seen = old .run .seen;
             fields = counted (old .run .fields + words);
             offset = counted (old .run .offset + 10 * words);
           };

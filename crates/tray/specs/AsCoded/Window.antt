@@ -71,7 +71,7 @@ passing (Refused number place) window last old = stopsAt number last old
 unfoldable pub turn : List ℕ → Bool → Passed → Passed
 turn window last old =
     cond (ltb (length (old .out) - old .put) lineRoom) (stopping Full old)
-    (passing (readAt window (old .at) (old .tray .begun)) window last old)
+    (passing (readAt window (old .at) (old .tray .seen)) window last old)
 
 abbrev pub isGoing : Stop → Bool
 isGoing Going = true

@@ -19,6 +19,9 @@ wrapping-add-u64-requires c κs = search needs
 wrapping-add-u64-requires-2 : tie.Need-wrapping-add-u64-requires-2
 wrapping-add-u64-requires-2 c κs = search needs
 
+after-requires : tie.Need-after-requires
+after-requires c κs = search needs
+
 same-length : tie.Need-same-length
 same-length c = search needs
 
@@ -37,6 +40,7 @@ take-field-spec =
     sub-size
     wrapping-add-u64-requires
     wrapping-add-u64-requires-2
+    after-requires
     same-length
     same-length-2
     returns)

@@ -1,6 +1,6 @@
 -- `tray_cells::state::put_state` meets its contract, before a setup and after. Assumes nothing.
 use borrow.Author.Needs.{needs}
-use Rattle.tray_cells.proofs.StateLaws.{state-none, state-begun}
+use Rattle.tray_cells.proofs.StateLaws.{state-none, state-some}
 use Rattle.tray_cells.proofs.state.put_state.Statement.{statement}
 use Rattle.tray_cells.proofs.state.put_state.Tie as tie
 
@@ -11,7 +11,7 @@ same-length : tie.Need-same-length
 same-length c = search needs
 
 returns : tie.Need-returns
-returns c = search (needs, state-none, state-begun)
+returns c = search (needs, state-none, state-some)
 
 slice-aggregate-put-text : tie.Need-slice-aggregate-put-text
 slice-aggregate-put-text c = search needs
@@ -23,7 +23,7 @@ same-length-2 : tie.Need-same-length-2
 same-length-2 c = search needs
 
 returns-2 : tie.Need-returns-2
-returns-2 c = search (needs, state-none, state-begun)
+returns-2 c = search (needs, state-none, state-some)
 
 pub put-state-spec : {M : Type 1} → statement M
 put-state-spec =

@@ -7,9 +7,12 @@ use Rattle.tray.proofs.run.Run.at_start.Tie as tie
 at-setup-requires : tie.Need-at-setup-requires
 at-setup-requires c κs = search needs
 
+nothing-requires : tie.Need-nothing-requires
+nothing-requires c κs = search needs
+
 returns : tie.Need-returns
 unfolding runAtStart
 returns c = cc
 
 pub at-start-spec : {M : Type 1} → statement M
-at-start-spec = tie.close (tie.spec at-setup-requires returns)
+at-start-spec = tie.close (tie.spec at-setup-requires nothing-requires returns)
