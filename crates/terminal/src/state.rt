@@ -67,7 +67,7 @@ impl Core {
         self
     }
 
-    pub fn with_message(self, message: Message) -> Core
+    pub(crate) fn with_message(self, message: Message) -> Core
         ensures { λ core. ⌜ core ≡ withMessage message self ⌝ }
     {
         let shut = self.shut;

@@ -1,5 +1,5 @@
--- What `take_row` leaves: the turns that are left lead where all of them led (`row-taken`). The words
--- that are found are as many turns, and the terminal stores them as a row. Assumes nothing.
+-- What `take_row` leaves: the turns that are left lead where all of them led (`row-taken`). The
+-- words that are found are as many turns, and the terminal stores them as a row. Assumes nothing.
 use mathlib.Core.Path.{_≡_, refl, sym, ap, _∙_}
 use mathlib.Core.Bool.{Bool, true, false, not, _&&_}
 use mathlib.Core.List.{List, map}
@@ -50,7 +50,8 @@ able-tells : (begun : Bool) (room most : ℕ) (row : Row) → mayTakeRow begun r
     → Able begun room most row
 able-tells begun room most row is =
     let all =
-    both-of (begun && leb lineRoom room && ltb mostWords most) (ltb (row .taken) (row .wanted)) is in
+    both-of (begun && leb lineRoom room && ltb mostWords most) (ltb (row .taken) (row .wanted))
+    is in
     let first = both-of (begun && leb lineRoom room) (ltb mostWords most) (all .0) in
     let second = both-of begun (leb lineRoom room) (first .0) in
     record {
