@@ -9,11 +9,11 @@ impl OpenMessage {
     pub fn wants(self) -> u16
         ensures { λ words. ⌜ words ≡ wants self ⌝ }
     {
-        let asked = self.asks();
-        let kept = self.busy & asked.yields;
         let stage = self.stage;
         match stage {
             Stage::Data => {
+                let asked = self.asks();
+                let kept = self.busy & asked.yields;
                 if kept {
                     return 0;
                 }

@@ -13,8 +13,6 @@ use Rattle.terminal.proofs.state.Core.move_table.Kinds as core-table-ki
 use Rattle.terminal.proofs.state.Core.move_table.Reads as core-table-reads
 use Rattle.terminal.proofs.state.Core.set_flags.Kinds as core-flags-kinds
 use Rattle.terminal.proofs.state.Core.set_flags.Reads as core-flags-reads
-use Rattle.terminal.proofs.state.Core.with_message.Kinds as with-message-kinds
-use Rattle.terminal.proofs.state.Core.with_message.Reads as with-message-reads
 use Rattle.terminal.proofs.state.Core.open.Kinds as core-open-kinds
 use Rattle.terminal.proofs.state.Core.open.Reads as core-open-reads
 use Rattle.terminal.proofs.state.Core.reply.Kinds as core-reply-kinds
@@ -45,9 +43,6 @@ core-table κs arguments result result′ exit exit′ = same
 
 pub core-flags : Determined 0 core-flags-kinds.ps core-flags-kinds.r core-flags-reads.Post
 core-flags κs arguments result result′ exit exit′ = same
-
-pub with-message : Determined 0 with-message-kinds.ps with-message-kinds.r with-message-reads.Post
-with-message κs arguments result result′ exit exit′ = same
 
 pub core-open : Determined 1 core-open-kinds.ps core-open-kinds.r core-open-reads.Post
 core-open κs arguments result result′ exit exit′ = same

@@ -75,7 +75,7 @@ impl Core {
         self
     }
 
-    pub fn with_message(self, message: Message) -> Core
+    pub(crate) fn with_message(self, message: Message) -> Core
         ensures { λ core. ⌜ core ≡ withMessage message self ⌝ }
     {
         let table = self.table;

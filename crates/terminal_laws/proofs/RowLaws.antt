@@ -1,6 +1,6 @@
 -- Data words that the open message wants: one is stored (`word-is-stored`), and a row of them,
 -- stored at once, is as many words heard one after the other (`row-is-words`). Assumes nothing.
-use mathlib.Core.Path.{_≡_, refl, sym, ap, _∙_}
+use mathlib.Core.Path.{_≡_, refl, ap, _∙_}
 use mathlib.Core.Bool.{Bool, true, false, Bool·beq}
 use mathlib.Core.List.{List, [], _∷_, map}
 use Prim.Native.Nat.{ℕ, suc, _+_, _≤_, _<_}

@@ -4,8 +4,8 @@
 --     LineLaws      the line of an answer, and the last line
 --     TurnLaws      one field of a window, as the code takes it
 --     RowLaws       a row of data words, as the code takes it
---     WordTurns     a data word that is wanted is a turn
---     RowTurns      a row of data words is as many turns
+--     WordTurns     the data words that are found are as many turns
+--     RowTurns      a row of data words, taken at once, is as many turns
 --     LoopLaws      field after field
 --     KeepLaws      what is left of a window moves to its front
 --     PrintedLaws   what is printed goes field by field

@@ -1,5 +1,5 @@
--- What `take_row` leaves: the turns that are left lead where all of them led (`row-taken`). The words
--- that are found are as many turns, and the terminal stores them as a row. Assumes nothing.
+-- What `take_row` leaves: the turns that are left lead where all of them led (`row-taken`). The
+-- words that are found are as many turns, and the terminal stores them as a row. Assumes nothing.
 use mathlib.Core.Path.{_≡_, refl, sym, ap, _∙_}
 use mathlib.Core.Bool.{Bool, true, false, not, _&&_}
 use mathlib.Core.List.{List, map}

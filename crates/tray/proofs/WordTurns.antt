@@ -1,8 +1,8 @@
--- A data word that is found is a turn (`word-is-turn`), and so many words that are found are as many
+-- A data word that is found is a turn (`word-is-turn`), and the words that are found are as many
 -- turns (`words-are-turns`), whatever the terminal makes of them. Assumes nothing.
-use mathlib.Core.Path.{_≡_, refl, ap, _∙_}
+use mathlib.Core.Path.{_≡_, refl, _∙_}
 use mathlib.Core.Bool.{Bool, true, false}
-use mathlib.Core.List.{List, _∷_, map}
+use mathlib.Core.List.{List, map}
 use Prim.Native.Nat.{ℕ, zero, suc, _+_, _-_, _*_, _≤_, _<_, _^_}
 use native.Mathlib.Omega.{arith}
 use lib.ListN.{length}

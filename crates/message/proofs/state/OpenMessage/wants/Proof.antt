@@ -4,11 +4,11 @@ use Rattle.message.proofs.WantsLaws.{wanting}
 use Rattle.message.proofs.state.OpenMessage.wants.Statement.{statement}
 use Rattle.message.proofs.state.OpenMessage.wants.Tie as tie
 
-asks-requires : tie.Need-asks-requires
-asks-requires c κs = search needs
-
 enum-told : tie.Need-enum-told
 enum-told c = search needs
+
+asks-requires : tie.Need-asks-requires
+asks-requires c κs = search needs
 
 returns : tie.Need-returns
 returns c = search (needs, wanting) depth 9
@@ -38,8 +38,8 @@ pub wants-spec : {M : Type 1} → statement M
 wants-spec =
     tie.close
     (tie.spec
-    asks-requires
     enum-told
+    asks-requires
     returns
     enum-told-2
     enum-told-3

@@ -1,4 +1,4 @@
--- `terminal::row::Row::store` meets its contract: a law for each answer of its test. Assumes nothing.
+-- `terminal::row::Row::store` meets its contract, by the cases of its test. Assumes nothing.
 use borrow.Author.Needs.{needs}
 use Rattle.terminal.proofs.RowLaws.{row-storing}
 use Rattle.terminal.proofs.row.Row.store.Statement.{statement}
