@@ -111,8 +111,7 @@ pub(crate) fn take_row(ran: Ran, ram: &mut [u16], window: &[u8], room: usize, mo
         fields: run.fields,
         offset: run.offset,
     };
-    let block = message.block;
-    let end = start.store(ram, window, marks_on(message.line), block, wanted);
+    let end = start.store(ram, window, marks_on(message.line), message.block, wanted);
     let words = (end.taken - message.taken) as u64;
     Rowed {
         ran: after_row(ran, message, end),

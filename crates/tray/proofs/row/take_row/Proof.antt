@@ -32,10 +32,10 @@ cast-words c = search needs
 after-row-requires : tie.Need-after-row-requires
 after-row-requires c κs = search needs
 
-sub-t25 : tie.Need-sub-t25
-sub-t25 c =
+sub-t24 : tie.Need-sub-t24
+sub-t24 c =
     let at-store = c .before .before .before .before .before in
-    let at-wanted = at-store .before .before .before .before in
+    let at-wanted = at-store .before .before .before in
     let at-state = at-wanted .before .before .before .before .before in
     let at-start = at-state .before .before .before .before .before in
     words-fit (at-start .args .room) _ _ _ _ _ _ _ _ _ _ _ _
@@ -49,7 +49,7 @@ same-length c = search needs
 returns-2 : tie.Need-returns-2
 returns-2 c =
     let at-store = c .before .before .before .before .before in
-    let at-wanted = at-store .before .before .before .before in
+    let at-wanted = at-store .before .before .before in
     row-taken _ _ _ _ _ _ _ _ _ _ _ _
     (c .after-row .ensures)
     (search needs)
@@ -71,6 +71,6 @@ take-row-spec =
     sub-words
     cast-words
     after-row-requires
-    sub-t25
+    sub-t24
     same-length
     returns-2)
