@@ -126,7 +126,8 @@ pub link-moves : (ram : List ℕ) (block table : Block) (cell : Cell) → cell .
 unfolding cellAt withLink
 link-moves ram block table cell inside on-card =
     rw (with-cell-inside ram table cell (getD ram (wordAddress block (theCell 63)) 0) inside)
-    (getD-set-same ram (wordAddress table cell) (getD ram (wordAddress block (theCell 63)) 0) 0 on-card)
+    (getD-set-same ram (wordAddress table cell) (getD ram (wordAddress block (theCell 63)) 0) 0
+    on-card)
 
 -- the host's words, from an address on
 pub words-keep : (address : ℕ) (words : List ℕ)

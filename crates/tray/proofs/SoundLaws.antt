@@ -63,8 +63,8 @@ happening-is-fit : (bytes : List ℕ) (field : Field) (place next : ℕ) (old : 
 unfolding happened happeningOf FitEvent terminalAtSetup
 happening-is-fit bytes (Setup station table flags) place next old in-order fit =
     fit-card-parts _
-    (fit-at-setup station (theBlock table) flags (in-order .station-at-most) (in-order .table-at-most)
-    (in-order .flags-at-most))
+    (fit-at-setup station (theBlock table) flags (in-order .station-at-most)
+    (in-order .table-at-most) (in-order .flags-at-most))
 happening-is-fit bytes (Word marks value time) place next old in-order fit =
     fit-stays-fit (word _) old tt (fit refl)
 happening-is-fit bytes (Silence line time) place next old in-order fit =

@@ -192,11 +192,13 @@ module _ {Spent : Block → Type 0} where
         getD-drop start other place 0,
       )
       (agree .cell (start + place)
-      (subst (Kept Spent) (omega arith) (unspent-kept block (theCell place) unspent (omega arith)))))
+      (subst (Kept Spent) (omega arith)
+      (unspent-kept block (theCell place) unspent (omega arith)))))
 
   -- a table cell
   pub same-entry : {ram other : List ℕ} (table : Block) (cell : Cell) → (Spent table → ⊥)
-      → cell .0 < blockCells → Agree Spent ram other → cellAt ram table cell ≡ cellAt other table cell
+      → cell .0 < blockCells → Agree Spent ram other
+      → cellAt ram table cell ≡ cellAt other table cell
   unfolding cellAt
   same-entry table cell unspent inside agree =
       agree .cell (wordAddress table cell) (unspent-kept table cell unspent inside)
