@@ -71,7 +71,8 @@ module _ {ram : List ℕ} {block : Block} {start end : ℕ} (lent : Lent ram blo
       let part58 : List ℕ = withCell part (theBlock 0) (theCell 58) state in
       let part59 : List ℕ = withCell part58 (theBlock 0) (theCell 59) (closing / 65536) in
       let part60 : List ℕ = withCell part59 (theBlock 0) (theCell 60) (closing % 65536) in
-      let long58 : length part58 ≡ end - start = length-with-cell part (theBlock 0) (theCell 58) state ∙ long in
+      let long58 : length part58 ≡ end - start =
+      length-with-cell part (theBlock 0) (theCell 58) state ∙ long in
       let long59 : length part59 ≡ end - start =
       length-with-cell part58 (theBlock 0) (theCell 59) (closing / 65536) ∙ long58 in
       let long60 : length part60 ≡ end - start =
@@ -87,11 +88,13 @@ module _ {ram : List ℕ} {block : Block} {start end : ℕ} (lent : Lent ram blo
 
 module _ (ram : List ℕ) (block : Block) (start : ℕ) where
   -- memory ends before the block: nothing is lent and nothing changes
-  pub unlent-cell : (cell : Cell) (word : ℕ) → start ≡ wordAddress block (theCell 0) → length ram ≤ start
+  pub unlent-cell : (cell : Cell) (word : ℕ)
+      → start ≡ wordAddress block (theCell 0) → length ram ≤ start
       → ram ≡ withCell ram block cell word
   unlent-cell cell word starts out = with-cell-out ram block cell word (omega arith)
 
-  pub unlent-service : (state closing ticks : ℕ) → start ≡ wordAddress block (theCell 0) → length ram ≤ start
+  pub unlent-service : (state closing ticks : ℕ)
+      → start ≡ wordAddress block (theCell 0) → length ram ≤ start
       → ram ≡ withService ram block state closing ticks
   unfolding withService
   unlent-service state closing ticks starts out =
@@ -103,7 +106,8 @@ module _ (ram : List ℕ) (block : Block) (start : ℕ) where
       )
 
   module _ (end : ℕ) (part : List ℕ) where
-    pub lent-cell : (cell : Cell) (word : ℕ) → start ≡ wordAddress block (theCell 0) → start < length ram
+    pub lent-cell : (cell : Cell) (word : ℕ)
+        → start ≡ wordAddress block (theCell 0) → start < length ram
         → end ≡ min (start + blockCells) (length ram)
         → part ≡ withCell (midOf start (end - start) ram) (theBlock 0) cell word
         → putMid start (end - start) ram part ≡ withCell ram block cell word
@@ -113,7 +117,8 @@ module _ (ram : List ℕ) (block : Block) (start : ℕ) where
         rw is (stored-in-part lent (midOf start (end - start) ram) cell word (part-long lent)
         ∙ rw (put-same start (end - start) ram))
 
-    pub lent-service : (state closing ticks : ℕ) → start ≡ wordAddress block (theCell 0) → start < length ram
+    pub lent-service : (state closing ticks : ℕ)
+        → start ≡ wordAddress block (theCell 0) → start < length ram
         → end ≡ min (start + blockCells) (length ram)
         → part ≡ withService (midOf start (end - start) ram) (theBlock 0) state closing ticks
         → putMid start (end - start) ram part ≡ withService ram block state closing ticks

@@ -67,18 +67,15 @@ fn close_ram(ram: &mut [u16], asked: Asked, state: u16, time: u32, message: Open
 {
     let has = asked.block;
     let moved = message.moved;
-    let block = message.block;
-    let home = message.home;
-    let cell = asked.cell;
     if !has {
         return;
     }
     let ticks = time::ticks(message.opened, time);
-    memory::write_service(ram, block, state, time, ticks);
+    memory::write_service(ram, message.block, state, time, ticks);
     if moved {
         return;
     }
-    memory::write_link(ram, block, home, cell);
+    memory::write_link(ram, message.block, message.home, asked.cell);
 }
 
 // If wanted, the block number joins the queue.

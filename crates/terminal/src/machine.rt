@@ -137,9 +137,8 @@ impl Core {
                 self.go_on(ring, message, stage, second, taken)
             }
             WordDeed::Store(taken) => {
-                let block = message.block;
+                memory::write_cell(ram, message.block, Cell(message.taken), word.value);
                 let second = message.second;
-                memory::write_cell(ram, block, Cell(message.taken), word.value);
                 self.go_on(ring, message, Stage::Data, second, taken)
             }
             WordDeed::Fault(code) => {

@@ -134,9 +134,7 @@ impl Core {
         ensures { λ opened. ⌜ opened ≡ openedAt word self (now (ram .entry)) ⌝ }
     {
         let asked = asked::asked_of(word.value);
-        let table = self.table;
-        let cell = asked.cell;
-        let entry = memory::read_cell(ram, table, cell);
+        let entry = memory::read_cell(ram, self.table, asked.cell);
         opened_core(asked, entry, word, self)
     }
 }

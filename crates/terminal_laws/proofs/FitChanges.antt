@@ -87,8 +87,8 @@ fit-closing asked state time message old on-card fit =
     record {
       core = fit-with-message Idle (old .core) refl (fit .core);
       queue =
-          fit-closed-queue (asked .block && message .queued) (message .block .0) (old .queue) on-card
-          (fit .queue);
+          fit-closed-queue (asked .block && message .queued) (message .block .0) (old .queue)
+          on-card (fit .queue);
     }
 
 -- refusal 4 asks nothing of the remembered status ..

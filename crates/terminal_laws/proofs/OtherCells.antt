@@ -75,8 +75,8 @@ idle-may-write-nothing old idle a-silence (table-cell with-block closes stays is
 data Place (message : OpenMessage) (address : ℕ) : Type 0 where
   in-data : {cell : Cell} → cell .0 < 32 → address ≡ wordAddress (message .block) cell
       → Place message address
-  in-service : {cell : Cell} → 58 ≤ cell .0 → cell .0 ≤ 61 → address ≡ wordAddress (message .block) cell
-      → Place message address
+  in-service : {cell : Cell} → 58 ≤ cell .0 → cell .0 ≤ 61
+      → address ≡ wordAddress (message .block) cell → Place message address
   in-table : address ≡ tableAddress message → Place message address
 
 module _ (old : Card) (message : OpenMessage) (is-open : old .core .message ≡ Open message) where

@@ -98,8 +98,8 @@ module _ (line : Bool) (time : ℕ) (old : Card) (status : ℕ) (block : Block) 
       (high-done message time old (silenceJudged message line)))
 
   -- the closing writes none of the cells that are sent
-  sent-cell-unwritten : (cell : Cell) (address : ℕ) → cell .0 < count → address ≡ wordAddress block cell
-      → MayWrite old (silence line time) address → ⊥
+  sent-cell-unwritten : (cell : Cell) (address : ℕ) → cell .0 < count
+      → address ≡ wordAddress block cell → MayWrite old (silence line time) address → ⊥
   sent-cell-unwritten cell address below at (service-cell with-block closes from to is) =
       omega (arith, sent-at-most (silence line time) old status block count replied)
   sent-cell-unwritten cell address below at

@@ -80,7 +80,8 @@ Later Spent before (event ∷ after) here there =
     (step event here .card) (step event there .card)
 
 -- the claim; where both messages have closed, the cards are alike before the next event too
-pub record SameAfter (Spent : Block → Type 0) (after : List Event) (here there : Card) : Type 0 where
+pub record SameAfter (Spent : Block → Type 0) (after : List Event) (here there : Card)
+    : Type 0 where
   pub at-once : here .core .message ≡ Idle → there .core .message ≡ Idle → Alike Spent here there
   pub later : Later Spent true after here there
 

@@ -178,7 +178,8 @@ module _ {Spent : Block → Type 0} where
 
   -- a cell of a block that was not spent, as one of the table
   pub same-entry : {ram other : List ℕ} (table : Block) (cell : Cell) → (Spent table → ⊥)
-      → cell .0 < blockCells → Agree Spent ram other → cellAt ram table cell ≡ cellAt other table cell
+      → cell .0 < blockCells → Agree Spent ram other
+      → cellAt ram table cell ≡ cellAt other table cell
   unfolding cellAt
   same-entry table cell unspent inside agree =
       agree .cell (wordAddress table cell) (unspent-kept table cell unspent inside)

@@ -2,7 +2,6 @@
 -- Assumes nothing.
 use mathlib.Core.Bool.{Bool}
 use mathlib.Core.List.{List, [], _∷_}
-use Prim.Native.Nat.{ℕ}
 use Rattle.card.specs.declared.place.Block.{Block}
 use Rattle.terminal.specs.State.{Card}
 use Rattle.terminal.specs.Event.{Event, word}
