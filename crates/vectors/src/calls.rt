@@ -1,10 +1,12 @@
-// A call of one of the library's actions, with its refusal: numbers in the library's order 1, 4, 2,
-// 3, 8. What is refused leaves the terminal and the RAM as they were given. The words of a row:
-// action, two arguments, words of RAM, refusal, 0 for none; then the terminal (`given`). Actions:
+// A call of one of the library's actions: its refusal, and the terminal that it leaves. What is
+// refused leaves the RAM as it was given, and no call here changes the queue's places. The words of
+// a row: action, two arguments, words of RAM, refusal, 0 for none; then the terminal (`given`). On
+// the next line, behind an equals sign, the terminal that is left: station, table block, flags,
+// queue start, then as a recording leaves it. Actions:
 //
 //     0  setup, of the terminal's station, table block and flags
-//     1  word: marks           2  silence: line     3  host write: address, count of words
-//     4  queue read            5  table block       6  flags
+//     1  a word 2C61: its marks    2  silence: line    3  host write: address, count of words
+//     4  queue read                5  table block      6  flags
 //     7  words to send: block, count
 ghost use Rattle.vectors.specs.Same.{Compared};
 use crate::given;
@@ -65,23 +67,12 @@ fn part(terminal: Terminal, ram: &[u16], block: u16, count: u16) -> Done {
     }
 }
 
-// What setup refuses is no terminal: every action refuses it with 4.
-fn setup(given: Terminal) -> Done {
-    let core = given.core;
-    let made = Terminal::setup(core.station, core.table, core.flags);
-    let new = made.terminal;
-    let right = (made.refusal == 0) == new.is_fit();
-    Done {
-        refusal: number_if(right, made.refusal),
-        terminal: given,
-    }
-}
-
 fn perform(given: Terminal, ram: &mut [u16], row: &[u8]) -> Done {
     let first = notation::word_in(row, 1);
     let second = notation::word_in(row, 2);
+    let core = given.core;
     match notation::word_in(row, 0) {
-        0 => setup(given),
+        0 => Terminal::setup(core.station, core.table, core.flags),
         1 => done(given.word(ram, (first % 256) as u8, 0x2C61, 9)),
         2 => done(given.silence(ram, (first % 256) as u8, 9)),
         3 => write(given, ram, first, second),
@@ -111,7 +102,6 @@ fn same_words(first: &[u16], second: &[u16]) -> bool
     true
 }
 
-// The numbers of a terminal that a recording's case does not show, then those that it does.
 fn put_terminal(out: &mut [u8], terminal: Terminal) -> usize {
     let core = terminal.core;
     let queue = terminal.queue;
@@ -123,25 +113,19 @@ fn put_terminal(out: &mut [u8], terminal: Terminal) -> usize {
     recordings::put_state(out, start, core, ring)
 }
 
-fn same_terminal(first: Terminal, second: Terminal) -> bool {
-    let mut one = io::buffer();
-    let size = put_terminal(&mut one, first);
-    let mut two = io::buffer();
-    let count = put_terminal(&mut two, second);
-    let queue = first.queue;
-    let other = second.queue;
-    same_words(&queue.places, &other.places)
-        & check::same(
-            notation::part(&one, 0, size),
-            notation::part(&two, 0, count),
-        )
+fn is_left(given: Terminal, left: Terminal, wanted: &[u8]) -> bool {
+    let mut bytes = io::buffer();
+    let size = put_terminal(&mut bytes, left);
+    let queue = given.queue;
+    let other = left.queue;
+    same_words(&queue.places, &other.places) & check::same(notation::part(&bytes, 0, size), wanted)
 }
 
 // ---- the cases
 
-// Whether an action over the row's part of a RAM gives the row's refusal, and keeps the terminal
-// where it refuses.
-fn call_holds(row: &[u8], ram: &mut [u16]) -> bool {
+// Whether an action over the row's part of a RAM gives the row's refusal, and leaves what it
+// should.
+fn call_holds(row: &[u8], wanted: &[u8], ram: &mut [u16]) -> bool {
     let size = notation::word_in(row, 3) as usize;
     if ram.len() < size {
         return false;
@@ -150,22 +134,28 @@ fn call_holds(row: &[u8], ram: &mut [u16]) -> bool {
     let made = perform(terminal, &mut ram[0..size], row);
     let left = made.terminal;
     let number = made.refusal as u16;
-    (number == notation::word_in(row, 4)) & ((number == 0) | same_terminal(terminal, left))
+    (number == notation::word_in(row, 4)) & is_left(terminal, left, wanted)
 }
 
 // Whether a row comes out as it should.
-fn row_holds(row: &[u8]) -> bool {
+fn row_holds(row: &[u8], wanted: &[u8]) -> bool {
     let mut cells: [u16; 16385] = [0x1234; 16385];
     let ram: &mut [u16] = &mut cells;
     let before: [u16; 16385] = [0x1234; 16385];
-    let right = call_holds(row, ram);
+    let right = call_holds(row, wanted, ram);
     right & ((notation::word_in(row, 4) == 0) | same_words(ram, &before))
 }
 
 // Whether a case comes out as it should.
 pub(crate) fn holds(text: &[u8]) -> bool {
-    let line = notation::part(text, 0, notation::place_of(text, 0, b'\n'));
+    let end = notation::place_of(text, 0, b'=');
     let mut bytes = io::buffer();
-    let size = notation::read_hex(line, &mut bytes, 0);
-    row_holds(notation::part(&bytes, 0, size))
+    let size = notation::read_hex(notation::part(text, 0, end), &mut bytes, 0);
+    let line = notation::part(text, end, notation::place_of(text, end, b'\n'));
+    let mut others = io::buffer();
+    let count = notation::read_hex(line, &mut others, 0);
+    row_holds(
+        notation::part(&bytes, 0, size),
+        notation::part(&others, 0, count),
+    )
 }

@@ -41,7 +41,7 @@ fn put_message(out: &mut [u8], at: usize, message: Message) -> usize {
             let stage = open.stage;
             let command = notation::put_word(out, at, open.command);
             let block = notation::put_word(out, command, open.block);
-            notation::put_byte(out, block, number_of(stage))
+            notation::put_byte(out, block, number_of(stage) | weigh(open.moved, 128))
         }
     }
 }
