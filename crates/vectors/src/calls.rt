@@ -39,15 +39,41 @@ fn done(answered: Answered) -> Done {
     }
 }
 
-fn write(terminal: Terminal, ram: &mut [u16], address: u16, count: u16) -> Done {
+// The first argument, as a byte.
+fn byte_of(row: &[u8]) -> u8 {
+    notation::byte_in(row, 3)
+}
+
+fn word(given: Terminal, ram: &mut [u16], row: &[u8]) -> Done {
+    done(given.word(ram, byte_of(row), 0x2C61, 9))
+}
+
+fn silence(given: Terminal, ram: &mut [u16], row: &[u8]) -> Done {
+    done(given.silence(ram, byte_of(row), 9))
+}
+
+fn write(given: Terminal, ram: &mut [u16], row: &[u8]) -> Done {
     let words: [u16; 65] = [0x5555; 65];
-    let end = (count % 66) as usize;
-    terminal.host_write(ram, address, &words[0..end])
+    let end = (notation::word_in(row, 2) % 66) as usize;
+    given.host_write(ram, notation::word_in(row, 1), &words[0..end])
+}
+
+// A part that is refused is empty; one that is shown has the words that were asked for.
+fn part(given: Terminal, ram: &[u16], row: &[u8]) -> Done {
+    let block = notation::word_in(row, 1);
+    let count = notation::word_in(row, 2);
+    let number = sent::refusal(ram, block, count);
+    let shown = sent::part(ram, block, count).len();
+    let right = ((number == 0) & (shown == count as usize)) | ((number != 0) & (shown == 0));
+    Done {
+        refusal: number_if(right, number),
+        terminal: given,
+    }
 }
 
 // A read that is refused has no word.
-fn read(terminal: Terminal) -> Done {
-    let answered = terminal.read_queue();
+fn read(given: Terminal) -> Done {
+    let answered = given.read_queue();
     let left = answered.terminal;
     let right = (answered.refusal == 0) | (answered.word == 0);
     Done {
@@ -56,30 +82,28 @@ fn read(terminal: Terminal) -> Done {
     }
 }
 
-// A part that is refused is empty; one that is shown has the words that were asked for.
-fn part(terminal: Terminal, ram: &[u16], block: u16, count: u16) -> Done {
-    let number = sent::refusal(ram, block, count);
-    let shown = sent::part(ram, block, count).len();
-    let right = ((number == 0) & (shown == count as usize)) | ((number != 0) & (shown == 0));
-    Done {
-        refusal: number_if(right, number),
-        terminal: terminal,
+fn setup(given: Terminal) -> Done {
+    let core = given.core;
+    Terminal::setup(core.station, core.table, core.flags)
+}
+
+// The actions that take no RAM.
+fn perform_alone(given: Terminal, row: &[u8]) -> Done {
+    match notation::byte_in(row, 1) {
+        0 => setup(given),
+        4 => read(given),
+        5 => given.move_table(notation::word_in(row, 1)),
+        _ => given.set_flags(notation::word_in(row, 1)),
     }
 }
 
 fn perform(given: Terminal, ram: &mut [u16], row: &[u8]) -> Done {
-    let first = notation::word_in(row, 1);
-    let second = notation::word_in(row, 2);
-    let core = given.core;
-    match notation::word_in(row, 0) {
-        0 => Terminal::setup(core.station, core.table, core.flags),
-        1 => done(given.word(ram, (first % 256) as u8, 0x2C61, 9)),
-        2 => done(given.silence(ram, (first % 256) as u8, 9)),
-        3 => write(given, ram, first, second),
-        4 => read(given),
-        5 => given.move_table(first),
-        6 => given.set_flags(first),
-        _ => part(given, ram, first, second),
+    match notation::byte_in(row, 1) {
+        1 => word(given, ram, row),
+        2 => silence(given, ram, row),
+        3 => write(given, ram, row),
+        7 => part(given, ram, row),
+        _ => perform_alone(given, row),
     }
 }
 
@@ -123,18 +147,22 @@ fn is_left(given: Terminal, left: Terminal, wanted: &[u8]) -> bool {
 
 // ---- the cases
 
-// Whether an action over the row's part of a RAM gives the row's refusal, and leaves what it
-// should.
+// Whether an action gives the row's refusal, and leaves what it should.
 fn call_holds(row: &[u8], wanted: &[u8], ram: &mut [u16]) -> bool {
+    let terminal = given::terminal_of(row);
+    let made = perform(terminal, ram, row);
+    let left = made.terminal;
+    let number = made.refusal as u16;
+    (number == notation::word_in(row, 4)) & is_left(terminal, left, wanted)
+}
+
+// .. over the row's part of a RAM.
+fn part_holds(row: &[u8], wanted: &[u8], ram: &mut [u16]) -> bool {
     let size = notation::word_in(row, 3) as usize;
     if ram.len() < size {
         return false;
     }
-    let terminal = given::terminal_of(row);
-    let made = perform(terminal, &mut ram[0..size], row);
-    let left = made.terminal;
-    let number = made.refusal as u16;
-    (number == notation::word_in(row, 4)) & is_left(terminal, left, wanted)
+    call_holds(row, wanted, &mut ram[0..size])
 }
 
 // Whether a row comes out as it should.
@@ -142,7 +170,7 @@ fn row_holds(row: &[u8], wanted: &[u8]) -> bool {
     let mut cells: [u16; 16385] = [0x1234; 16385];
     let ram: &mut [u16] = &mut cells;
     let before: [u16; 16385] = [0x1234; 16385];
-    let right = call_holds(row, wanted, ram);
+    let right = part_holds(row, wanted, ram);
     right & ((notation::word_in(row, 4) == 0) | same_words(ram, &before))
 }
 
