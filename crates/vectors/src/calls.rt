@@ -130,10 +130,8 @@ fn put_terminal(out: &mut [u8], terminal: Terminal) -> usize {
     let core = terminal.core;
     let queue = terminal.queue;
     let ring = queue.ring;
-    let station = notation::put_word(out, 0, core.station);
-    let table = notation::put_word(out, station, core.table);
-    let flags = notation::put_word(out, table, core.flags);
-    let start = notation::put_word(out, flags, ring.start);
+    let table = notation::put_pair(out, 0, core.station, core.table);
+    let start = notation::put_pair(out, table, core.flags, ring.start);
     recordings::put_state(out, start, core, ring)
 }
 

@@ -65,9 +65,14 @@ pub(crate) fn put_byte(out: &mut [u8], at: usize, byte: u8) -> usize {
 }
 
 // Puts a word, high byte first.
-pub(crate) fn put_word(out: &mut [u8], at: usize, word: u16) -> usize {
+fn put_word(out: &mut [u8], at: usize, word: u16) -> usize {
     let next = put_byte(out, at, (word / 256 % 256) as u8);
     put_byte(out, next, (word % 256) as u8)
+}
+
+pub(crate) fn put_pair(out: &mut [u8], at: usize, first: u16, second: u16) -> usize {
+    let next = put_word(out, at, first);
+    put_word(out, next, second)
 }
 
 // ---- hex
