@@ -1,4 +1,4 @@
--- What no recording shows, by computation: numbers that no byte is, places past the end, pieces, and
+-- What no recording shows, by computation: numbers that no byte is, a place past the end, pieces,
 -- copies that are not made. The other worked cases are rows of `vectors`. Assumes nothing.
 use mathlib.Core.Path.{_≡_, refl}
 use mathlib.Core.Bool.{true, false}

@@ -1,6 +1,6 @@
--- The marked cases of document 01 by computation, and theorems at work: instances, and variants that
--- ask less or say more, refuted. Every other worked case is a row of the program `vectors`. Read
--- `Marked` first.
+-- The marked cases of document 01 by computation, and theorems at work: instances, and variants
+-- that ask less or say more, refuted. Every other worked case is a row of the program `vectors`.
+-- Read `Marked` first.
 --     Machine         one name to unfold the whole machine
 --     Telling         what runs are told with
 --     Marked          the ten marked cases of document 01, one table with one proof

@@ -1,10 +1,12 @@
-// A call of one of the library's actions, with its refusal: numbers in the library's order 1, 4, 2,
-// 3, 8. What is refused leaves the terminal and the RAM as they were given. The words of a row:
-// action, two arguments, words of RAM, refusal, 0 for none; then the terminal (`given`). Actions:
+// A call of one of the library's actions: its refusal, and the terminal that it leaves. What is
+// refused leaves the RAM as it was given, and no call here changes the queue's places. The words of
+// a row: action, two arguments, words of RAM, refusal, 0 for none; then the terminal (`given`). On
+// the next line, behind an equals sign, the terminal that is left: station, table block, flags,
+// queue start, then as a recording leaves it. Actions:
 //
 //     0  setup, of the terminal's station, table block and flags
-//     1  word: marks           2  silence: line     3  host write: address, count of words
-//     4  queue read            5  table block       6  flags
+//     1  a word 2C61: its marks    2  silence: line    3  host write: address, count of words
+//     4  queue read                5  table block      6  flags
 //     7  words to send: block, count
 ghost use Rattle.vectors.specs.Same.{Compared};
 use crate::given;
@@ -37,15 +39,41 @@ fn done(answered: Answered) -> Done {
     }
 }
 
-fn write(terminal: Terminal, ram: &mut [u16], address: u16, count: u16) -> Done {
+// The first argument, as a byte.
+fn byte_of(row: &[u8]) -> u8 {
+    notation::byte_in(row, 3)
+}
+
+fn word(given: Terminal, ram: &mut [u16], row: &[u8]) -> Done {
+    done(given.word(ram, byte_of(row), 0x2C61, 9))
+}
+
+fn silence(given: Terminal, ram: &mut [u16], row: &[u8]) -> Done {
+    done(given.silence(ram, byte_of(row), 9))
+}
+
+fn write(given: Terminal, ram: &mut [u16], row: &[u8]) -> Done {
     let words: [u16; 65] = [0x5555; 65];
-    let end = (count % 66) as usize;
-    terminal.host_write(ram, address, &words[0..end])
+    let end = (notation::word_in(row, 2) % 66) as usize;
+    given.host_write(ram, notation::word_in(row, 1), &words[0..end])
+}
+
+// A part that is refused is empty; one that is shown has the words that were asked for.
+fn part(given: Terminal, ram: &[u16], row: &[u8]) -> Done {
+    let block = notation::word_in(row, 1);
+    let count = notation::word_in(row, 2);
+    let number = sent::refusal(ram, block, count);
+    let shown = sent::part(ram, block, count).len();
+    let right = ((number == 0) & (shown == count as usize)) | ((number != 0) & (shown == 0));
+    Done {
+        refusal: number_if(right, number),
+        terminal: given,
+    }
 }
 
 // A read that is refused has no word.
-fn read(terminal: Terminal) -> Done {
-    let answered = terminal.read_queue();
+fn read(given: Terminal) -> Done {
+    let answered = given.read_queue();
     let left = answered.terminal;
     let right = (answered.refusal == 0) | (answered.word == 0);
     Done {
@@ -54,41 +82,28 @@ fn read(terminal: Terminal) -> Done {
     }
 }
 
-// A part that is refused is empty; one that is shown has the words that were asked for.
-fn part(terminal: Terminal, ram: &[u16], block: u16, count: u16) -> Done {
-    let number = sent::refusal(ram, block, count);
-    let shown = sent::part(ram, block, count).len();
-    let right = ((number == 0) & (shown == count as usize)) | ((number != 0) & (shown == 0));
-    Done {
-        refusal: number_if(right, number),
-        terminal: terminal,
-    }
-}
-
-// What setup refuses is no terminal: every action refuses it with 4.
 fn setup(given: Terminal) -> Done {
     let core = given.core;
-    let made = Terminal::setup(core.station, core.table, core.flags);
-    let new = made.terminal;
-    let right = (made.refusal == 0) == new.is_fit();
-    Done {
-        refusal: number_if(right, made.refusal),
-        terminal: given,
+    Terminal::setup(core.station, core.table, core.flags)
+}
+
+// The actions that take no RAM.
+fn perform_alone(given: Terminal, row: &[u8]) -> Done {
+    match notation::byte_in(row, 1) {
+        0 => setup(given),
+        4 => read(given),
+        5 => given.move_table(notation::word_in(row, 1)),
+        _ => given.set_flags(notation::word_in(row, 1)),
     }
 }
 
 fn perform(given: Terminal, ram: &mut [u16], row: &[u8]) -> Done {
-    let first = notation::word_in(row, 1);
-    let second = notation::word_in(row, 2);
-    match notation::word_in(row, 0) {
-        0 => setup(given),
-        1 => done(given.word(ram, (first % 256) as u8, 0x2C61, 9)),
-        2 => done(given.silence(ram, (first % 256) as u8, 9)),
-        3 => write(given, ram, first, second),
-        4 => read(given),
-        5 => given.move_table(first),
-        6 => given.set_flags(first),
-        _ => part(given, ram, first, second),
+    match notation::byte_in(row, 1) {
+        1 => word(given, ram, row),
+        2 => silence(given, ram, row),
+        3 => write(given, ram, row),
+        7 => part(given, ram, row),
+        _ => perform_alone(given, row),
     }
 }
 
@@ -111,61 +126,62 @@ fn same_words(first: &[u16], second: &[u16]) -> bool
     true
 }
 
-// The numbers of a terminal that a recording's case does not show, then those that it does.
 fn put_terminal(out: &mut [u8], terminal: Terminal) -> usize {
     let core = terminal.core;
     let queue = terminal.queue;
     let ring = queue.ring;
-    let station = notation::put_word(out, 0, core.station);
-    let table = notation::put_word(out, station, core.table);
-    let flags = notation::put_word(out, table, core.flags);
-    let start = notation::put_word(out, flags, ring.start);
+    let table = notation::put_pair(out, 0, core.station, core.table);
+    let start = notation::put_pair(out, table, core.flags, ring.start);
     recordings::put_state(out, start, core, ring)
 }
 
-fn same_terminal(first: Terminal, second: Terminal) -> bool {
-    let mut one = io::buffer();
-    let size = put_terminal(&mut one, first);
-    let mut two = io::buffer();
-    let count = put_terminal(&mut two, second);
-    let queue = first.queue;
-    let other = second.queue;
-    same_words(&queue.places, &other.places)
-        & check::same(
-            notation::part(&one, 0, size),
-            notation::part(&two, 0, count),
-        )
+fn is_left(given: Terminal, left: Terminal, wanted: &[u8]) -> bool {
+    let mut bytes = io::buffer();
+    let size = put_terminal(&mut bytes, left);
+    let queue = given.queue;
+    let other = left.queue;
+    same_words(&queue.places, &other.places) & check::same(notation::part(&bytes, 0, size), wanted)
 }
 
 // ---- the cases
 
-// Whether an action over the row's part of a RAM gives the row's refusal, and keeps the terminal
-// where it refuses.
-fn call_holds(row: &[u8], ram: &mut [u16]) -> bool {
+// Whether an action gives the row's refusal, and leaves what it should.
+fn call_holds(row: &[u8], wanted: &[u8], ram: &mut [u16]) -> bool {
+    let terminal = given::terminal_of(row);
+    let made = perform(terminal, ram, row);
+    let left = made.terminal;
+    let number = made.refusal as u16;
+    (number == notation::word_in(row, 4)) & is_left(terminal, left, wanted)
+}
+
+// .. over the row's part of a RAM.
+fn part_holds(row: &[u8], wanted: &[u8], ram: &mut [u16]) -> bool {
     let size = notation::word_in(row, 3) as usize;
     if ram.len() < size {
         return false;
     }
-    let terminal = given::terminal_of(row);
-    let made = perform(terminal, &mut ram[0..size], row);
-    let left = made.terminal;
-    let number = made.refusal as u16;
-    (number == notation::word_in(row, 4)) & ((number == 0) | same_terminal(terminal, left))
+    call_holds(row, wanted, &mut ram[0..size])
 }
 
 // Whether a row comes out as it should.
-fn row_holds(row: &[u8]) -> bool {
+fn row_holds(row: &[u8], wanted: &[u8]) -> bool {
     let mut cells: [u16; 16385] = [0x1234; 16385];
     let ram: &mut [u16] = &mut cells;
     let before: [u16; 16385] = [0x1234; 16385];
-    let right = call_holds(row, ram);
+    let right = part_holds(row, wanted, ram);
     right & ((notation::word_in(row, 4) == 0) | same_words(ram, &before))
 }
 
 // Whether a case comes out as it should.
 pub(crate) fn holds(text: &[u8]) -> bool {
-    let line = notation::part(text, 0, notation::place_of(text, 0, b'\n'));
+    let end = notation::place_of(text, 0, b'=');
     let mut bytes = io::buffer();
-    let size = notation::read_hex(line, &mut bytes, 0);
-    row_holds(notation::part(&bytes, 0, size))
+    let size = notation::read_hex(notation::part(text, 0, end), &mut bytes, 0);
+    let line = notation::part(text, end, notation::place_of(text, end, b'\n'));
+    let mut others = io::buffer();
+    let count = notation::read_hex(line, &mut others, 0);
+    row_holds(
+        notation::part(&bytes, 0, size),
+        notation::part(&others, 0, count),
+    )
 }

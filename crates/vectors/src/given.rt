@@ -1,7 +1,8 @@
 // The terminal that a row of a call describes, fit or not, from its sixth word on: station, table
 // block, flags; queue start, count, and what every place holds; the open command, its block, table
-// block and words taken, the second command (0 for none), the stage (0 for nothing open). Words that
-// the row has not are 0. Status and last command hold what no message makes, and all marks are set.
+// block and words taken, the second command (0 for none), the stage (0 for nothing open). Words
+// that the row has not are 0. Status and last command hold what no message makes, and all marks are
+// set.
 use crate::notation;
 use actions::Terminal;
 use message::state::Message;

@@ -3,9 +3,9 @@
 //
 //     r  recordings    c  calls
 //
-// The kind in capitals is of cases that must differ: each is one that holds, but for one thing wrong
-// in what it should be. It comes out right if the comparison says that it differs. Remarks and, after
-// a caret, the recording that every case of the group begins with come before the first case.
+// The kind in capitals is of cases that must differ: each is one that holds, but for one thing
+// wrong in what it should be. It comes out right if the comparison says that it differs. Before the
+// first case come remarks and, behind a caret, what every recording of the group begins with.
 //
 // A case begins with a star. One that is a recording:
 //
@@ -17,10 +17,11 @@
 //     one; then every nonzero cell, rising, as address and word
 //
 // The marks are a byte: bit 0 line A shut, 1 line B shut, 2 inhibit, 3 overflow. Of an open message
-// there are command, block and stage: 1 data, 2 second command, 3 awaiting status, 4 skipping. Where
-// no setup was taken the status is F800, that of no station.
+// there are command, block and a byte: its stage, 1 data, 2 second command, 3 awaiting status, 4
+// skipping, and bit 7 where the host has set the table block since. Where no setup was taken the
+// status is F800, that of no station.
 //
-// A case that is a call is a row of words in hex, to the line's end.
+// `calls` says what a case that is a call has.
 
 // A part of the text, empty where its ends are not in order.
 pub(crate) fn part(text: &[u8], start: usize, end: usize) -> &[u8] {
@@ -64,9 +65,14 @@ pub(crate) fn put_byte(out: &mut [u8], at: usize, byte: u8) -> usize {
 }
 
 // Puts a word, high byte first.
-pub(crate) fn put_word(out: &mut [u8], at: usize, word: u16) -> usize {
+fn put_word(out: &mut [u8], at: usize, word: u16) -> usize {
     let next = put_byte(out, at, (word / 256 % 256) as u8);
     put_byte(out, next, (word % 256) as u8)
+}
+
+pub(crate) fn put_pair(out: &mut [u8], at: usize, first: u16, second: u16) -> usize {
+    let next = put_word(out, at, first);
+    put_word(out, next, second)
 }
 
 // ---- hex

@@ -39,18 +39,16 @@ fn put_message(out: &mut [u8], at: usize, message: Message) -> usize {
         Message::Idle => at,
         Message::Open(open) => {
             let stage = open.stage;
-            let command = notation::put_word(out, at, open.command);
-            let block = notation::put_word(out, command, open.block);
-            notation::put_byte(out, block, number_of(stage))
+            let next = notation::put_pair(out, at, open.command, open.block);
+            notation::put_byte(out, next, number_of(stage) | weigh(open.moved, 128))
         }
     }
 }
 
 pub(crate) fn put_state(out: &mut [u8], at: usize, core: Core, ring: Ring) -> usize {
     let message = core.message;
-    let status = notation::put_word(out, at, core.status);
-    let last = notation::put_word(out, status, core.last);
-    let marks = notation::put_byte(out, last, marks_of(core, ring));
+    let words = notation::put_pair(out, at, core.status, core.last);
+    let marks = notation::put_byte(out, words, marks_of(core, ring));
     let waiting = notation::put_byte(out, marks, (ring.count % 256) as u8);
     put_message(out, waiting, message)
 }
@@ -59,8 +57,7 @@ fn put_cell(out: &mut [u8], at: usize, address: u16, word: u16) -> usize {
     if word == 0 {
         return at;
     }
-    let next = notation::put_word(out, at, address);
-    notation::put_word(out, next, word)
+    notation::put_pair(out, at, address, word)
 }
 
 // Every nonzero cell.
