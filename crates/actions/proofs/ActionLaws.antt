@@ -30,8 +30,8 @@ use Rattle.terminal.specs.Event.{
   word,
   silence,
   hostWrite,
-  tableMove,
-  flagsWrite,
+  moveTable,
+  setFlags,
   replied,
   queueWord,
   Outcome,
@@ -44,10 +44,10 @@ use Rattle.terminal.specs.WordStep.{wordStep}
 use Rattle.terminal.specs.SilenceStep.{silenceStep}
 use Rattle.terminal.specs.Machine.{
   step,
-  queueReadStep,
+  readQueueStep,
   hostWriteStep,
-  tableMoveStep,
-  flagsWriteStep,
+  moveTableStep,
+  setFlagsStep,
 }
 use Rattle.terminal.specs.Fitness.{fitCore}
 use Rattle.actions.specs.Actions.{
@@ -63,7 +63,7 @@ use Rattle.actions.specs.Actions.{
   terminal,
   terminalAtSetup,
   noTerminal,
-  settled,
+  done,
   setupAction,
 }
 use Rattle.actions.specs.AsCoded.Refusal.{setupRefusal, aloneRefusal, memoryRefusal}
@@ -168,7 +168,7 @@ module _ (given : Terminal) (ram : List ℕ) where
   pub host-took : (address : ℕ) (words : List ℕ) (number own : ℕ) (left : List ℕ)
       → number ≡ memoryRefusal (eqb (length ram) cardWords) (fitTerminal given) true
       → number ≡ 0
-      → host.done own left ≡ host.hostWrite cardBlocks ram address words
+      → host.wrote own left ≡ host.hostWrite cardBlocks ram address words
       → after own (replied Silent) (card (given .core) (given .queue) left)
       ≡ withMemory
       (isWrite cardBlocks address (length words)) 8 (hostWrite address words) over-memory
@@ -179,13 +179,13 @@ module _ (given : Terminal) (ram : List ℕ) where
       (isWrite cardBlocks address (length words))
       (sym is ∙ none)
     where
-      answered : host.Done → After
+      answered : host.Wrote → After
       answered done =
           after (done .number) (replied Silent) (card (given .core) (given .queue) (done .ram))
 
       go : (whole fit order : Bool) → memoryRefusal whole fit true ≡ 0
           → answered (cond whole
-          (cond order (host.done 0 (sets ram address words)) (host.done 8 ram)) (host.done 1 ram))
+          (cond order (host.wrote 0 (sets ram address words)) (host.wrote 8 ram)) (host.wrote 1 ram))
           ≡ cond (not whole) (after 1 (replied Silent) over-memory)
           (cond (not fit) (after 4 (replied Silent) over-memory)
           (cond (not order) (after 8 (replied Silent) over-memory)
@@ -242,21 +242,21 @@ module _ (given : Terminal) (fit : Bool) (is-fit : fit ≡ fitTerminal given) wh
   pub read-took : (taken : QueueRead) → not fit ≡ false → taken ≡ readOf (given .queue)
       → after 0 (queueWord (taken .word)) (card (given .core) (taken .queue) [])
       ≡ readQueueAction (alone given)
-  unfolding readQueueAction step queueReadStep
+  unfolding readQueueAction step readQueueStep
   read-took taken is-sound is-taken = rw (← is-fit, is-sound, is-taken)
 
 module _ (given : Terminal) (core : Core) where
   pub table-took : (table : Block)
       → core ≡ withTable table (withMessage (movedMessage (given .core .message)) (given .core))
       → after 0 (replied Silent) (card core (given .queue) [])
-      ≡ took (step (tableMove table) (alone given))
-  unfolding step tableMoveStep
+      ≡ took (step (moveTable table) (alone given))
+  unfolding step moveTableStep
   table-took table is = rw is
 
   pub flags-took : (flags : ℕ) → core ≡ withFlags flags (given .core)
       → after 0 (replied Silent) (card core (given .queue) [])
-      ≡ took (step (flagsWrite flags) (alone given))
-  unfolding step flagsWriteStep
+      ≡ took (step (setFlags flags) (alone given))
+  unfolding step setFlagsStep
   flags-took flags is = rw is
 
 pub ruleset on-terminal = (
@@ -277,21 +277,21 @@ unfolding terminalAtSetup
 setup-is station table flags core queue is is′ = rw (is, is′)
 
 module _ (station table flags : ℕ) where
-  settled-by : setupAction station table flags
+  setup-by : setupAction station table flags
       ≡ cond (eqb (setupRefusal station table flags) 0)
-      (settled 0 (terminalAtSetup station (theBlock table) flags))
-      (settled (setupRefusal station table flags) noTerminal)
+      (done 0 (terminalAtSetup station (theBlock table) flags))
+      (done (setupRefusal station table flags) noTerminal)
   unfolding setupAction
-  settled-by = go (isStation station) (isBlock cardBlocks (theBlock table)) (areFlags flags)
+  setup-by = go (isStation station) (isBlock cardBlocks (theBlock table)) (areFlags flags)
     where
       go : (one two three : Bool)
-          → cond (not one) (settled 2 noTerminal)
-          (cond (not two) (settled 3 noTerminal)
-          (cond (not three) (settled 8 noTerminal)
-          (settled 0 (terminalAtSetup station (theBlock table) flags))))
+          → cond (not one) (done 2 noTerminal)
+          (cond (not two) (done 3 noTerminal)
+          (cond (not three) (done 8 noTerminal)
+          (done 0 (terminalAtSetup station (theBlock table) flags))))
           ≡ cond (eqb (cond (not one) 2 (cond (not two) 3 (cond (not three) 8 0))) 0)
-          (settled 0 (terminalAtSetup station (theBlock table) flags))
-          (settled (cond (not one) 2 (cond (not two) 3 (cond (not three) 8 0))) noTerminal)
+          (done 0 (terminalAtSetup station (theBlock table) flags))
+          (done (cond (not one) 2 (cond (not two) 3 (cond (not three) 8 0))) noTerminal)
       go false two three = refl
       go true false three = refl
       go true true false = refl
@@ -299,15 +299,15 @@ module _ (station table flags : ℕ) where
 
   module _ (number : ℕ) (given : Terminal) (is : number ≡ setupRefusal station table flags) where
     pub setup-refused : (number ≡ 0 → ⊥) → given ≡ noTerminal
-        → settled number given ≡ setupAction station table flags
+        → done number given ≡ setupAction station table flags
     setup-refused other is-given =
-        rw (settled-by, ← is, ne-eqb number 0 other, is-given)
+        rw (setup-by, ← is, ne-eqb number 0 other, is-given)
 
-    pub setup-settled : number ≡ 0 → given ≡ terminalAtSetup station (theBlock table) flags
-        → settled 0 given ≡ setupAction station table flags
-    setup-settled none is-given = rw (settled-by, ← is, eq-eqb number 0 none, is-given)
+    pub setup-done : number ≡ 0 → given ≡ terminalAtSetup station (theBlock table) flags
+        → done 0 given ≡ setupAction station table flags
+    setup-done none is-given = rw (setup-by, ← is, eq-eqb number 0 none, is-given)
 
-pub ruleset settling = (setup-refused, setup-settled)
+pub ruleset setting-up = (setup-refused, setup-done)
 
 -- ---- what a silence shows is what the action took
 

@@ -20,10 +20,10 @@ use Rattle.terminal.specs.Event.{
   Event,
   word,
   silence,
-  queueRead,
+  readQueue,
   hostWrite,
-  tableMove,
-  flagsWrite,
+  moveTable,
+  setFlags,
   replied,
   queueWord,
   Outcome,
@@ -89,15 +89,15 @@ hostWriteAction address words =
 
 unfoldable pub readQueueAction : Card → After
 readQueueAction old =
-    cond (not (fitCard old)) (after 4 (queueWord 0) old) (took (step queueRead old))
+    cond (not (fitCard old)) (after 4 (queueWord 0) old) (took (step readQueue old))
 
 unfoldable pub moveTableAction : ℕ → Card → After
 moveTableAction table =
     withoutMemory (isBlock cardBlocks (theBlock table)) 3 (replied Silent)
-    (tableMove (theBlock table))
+    (moveTable (theBlock table))
 
 unfoldable pub setFlagsAction : ℕ → Card → After
-setFlagsAction flags = withoutMemory (areFlags flags) 8 (replied Silent) (flagsWrite flags)
+setFlagsAction flags = withoutMemory (areFlags flags) 8 (replied Silent) (setFlags flags)
 
 -- ---- setup
 
@@ -111,13 +111,13 @@ terminalAtSetup station table flags = terminal (coreAtSetup station table flags)
 abbrev pub noTerminal : Terminal
 noTerminal = terminalAtSetup allStations (theBlock 0) 0
 
-abbrev pub settled : ℕ → Terminal → Done
-settled refusal given = record { refusal = refusal; terminal = given }
+abbrev pub done : ℕ → Terminal → Done
+done refusal given = record { refusal = refusal; terminal = given }
 
 -- 2 no station, 3 no block of the card, 8 spare bits in the flags
 unfoldable pub setupAction : ℕ → ℕ → ℕ → Done
 setupAction station table flags =
-    cond (not (isStation station)) (settled 2 noTerminal)
-    (cond (not (isBlock cardBlocks (theBlock table))) (settled 3 noTerminal)
-    (cond (not (areFlags flags)) (settled 8 noTerminal)
-    (settled 0 (terminalAtSetup station (theBlock table) flags))))
+    cond (not (isStation station)) (done 2 noTerminal)
+    (cond (not (isBlock cardBlocks (theBlock table))) (done 3 noTerminal)
+    (cond (not (areFlags flags)) (done 8 noTerminal)
+    (done 0 (terminalAtSetup station (theBlock table) flags))))

@@ -6,7 +6,7 @@ use Prim.Native.Nat.{ℕ}
 use denote.Ref.{now}
 use Rattle.rules.proofs.Determined.{Determined, DeterminedAs, same}
 use Rattle.card.specs.declared.place.Block.{Block}
-use Rattle.card.specs.Host.{Done, done}
+use Rattle.card.specs.Host.{Wrote, wrote}
 use Rattle.card.proofs.place.word_address.Kinds as word-address-kinds
 use Rattle.card.proofs.place.word_address.Reads as word-address-reads
 use Rattle.card.proofs.table.is_busy.Kinds as is-busy-kinds
@@ -104,8 +104,8 @@ pub is-write : Determined 0 is-write-kinds.ps is-write-kinds.r is-write-reads.Po
 is-write κs arguments result result′ exit exit′ = same
 
 pub host-write :
-    DeterminedAs 2 host-write-kinds.ps host-write-kinds.r host-write-reads.Post Done
-    (λ κs result exit. done result (now (exit .0)))
+    DeterminedAs 2 host-write-kinds.ps host-write-kinds.r host-write-reads.Post Wrote
+    (λ κs result exit. wrote result (now (exit .0)))
 host-write κs arguments result result′ exit exit′ = same
 
 pub refusal : Determined 1 refusal-kinds.ps refusal-kinds.r refusal-reads.Post

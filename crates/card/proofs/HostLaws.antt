@@ -11,7 +11,7 @@ use lib.ListN.{length, getD, set, drop, drop-of-length-le, length-set}
 use lib.Seq.{sets, drop-cons, set-out}
 use borrow.Author.Tests.{le-leb}
 use Rattle.card.specs.Memory.{wordsIn}
-use Rattle.card.specs.Host.{Done, done, mostWritten, isWrite}
+use Rattle.card.specs.Host.{Wrote, wrote, mostWritten, isWrite}
 
 -- ---- one word
 
@@ -68,5 +68,5 @@ is-write-by-end blocks address count some few =
 
 -- ---- the answer
 
-pub done-ram : (number : ℕ) (ram ram′ : List ℕ) → ram ≡ ram′ → done number ram ≡ done number ram′
-done-ram number ram ram′ same = ap (λ (memory : List ℕ). done number memory) same
+pub wrote-ram : (number : ℕ) (ram ram′ : List ℕ) → ram ≡ ram′ → wrote number ram ≡ wrote number ram′
+wrote-ram number ram ram′ same = ap (λ (memory : List ℕ). wrote number memory) same

@@ -8,12 +8,12 @@ use lib.Seq.{sets}
 use Rattle.card.specs.Memory.{wordsIn}
 
 -- what an action on memory leaves: its refusal number, 0 for none, and memory
-pub record Done : Type 0 where
+pub record Wrote : Type 0 where
   pub number : ℕ
   pub ram : List ℕ
 
-abbrev pub done : ℕ → List ℕ → Done
-done number ram = record { number = number; ram = ram }
+abbrev pub wrote : ℕ → List ℕ → Wrote
+wrote number ram = record { number = number; ram = ram }
 
 -- a write has 1 to 64 words
 abbrev pub mostWritten : ℕ
@@ -26,10 +26,10 @@ isWrite blocks address count =
     leb 1 count && leb count mostWritten && leb (address + count) (wordsIn blocks)
 
 -- 1 where the RAM is not that of so many blocks; 8 where the words are no write
-unfoldable pub hostWrite : ℕ → List ℕ → ℕ → List ℕ → Done
+unfoldable pub hostWrite : ℕ → List ℕ → ℕ → List ℕ → Wrote
 hostWrite blocks ram address words =
     cond (eqb (length ram) (wordsIn blocks))
     (cond (isWrite blocks address (length words))
-    (done 0 (sets ram address words))
-    (done 8 ram))
-    (done 1 ram)
+    (wrote 0 (sets ram address words))
+    (wrote 8 ram))
+    (wrote 1 ram)

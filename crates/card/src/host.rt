@@ -2,7 +2,7 @@
 ghost use mathlib.Core.Path.{_≡_};
 ghost use lib.ListN.{set};
 ghost use lib.Seq.{sets};
-ghost use Rattle.card.specs.Host.{done, isWrite, hostWrite};
+ghost use Rattle.card.specs.Host.{wrote, isWrite, hostWrite};
 use crate::place::BLOCK_CELLS;
 
 // The words of a write, at most.
@@ -45,7 +45,7 @@ pub fn is_write(blocks: u16, address: u16, count: usize) -> bool
 // Writes 1 to 64 words from an address on, on a card of so many blocks, and answers 0 or the number
 // of the refusal.
 pub fn write(ram: &mut [u16], blocks: u16, address: u16, words: &[u16]) -> u8
-    ensures { λ number. ⌜ done number (now (ram .exit))
+    ensures { λ number. ⌜ wrote number (now (ram .exit))
         ≡ hostWrite blocks (now (ram .entry)) address (now (words .entry)) ⌝ }
 {
     let size = BLOCK_CELLS * (blocks as usize);

@@ -8,11 +8,11 @@ use lib.Dec.{eqb, ltb}
 use lib.ListN.{length, replicate}
 use borrow.Author.Tests.{ltb-false}
 use Rattle.card.specs.Memory.{cardWords}
-use Rattle.tray.specs.declared.run.Run.{Run}
-use Rattle.tray.specs.declared.window.Ran.{Ran}
+use Rattle.tray.specs.declared.run.Tray.{Tray as HeldTray}
+use Rattle.tray.specs.declared.window.Passed.{Passed as HeldPassed}
 use Rattle.tray.specs.Run.{Tray, trayOver}
 use Rattle.tray.specs.AsCoded.Window.{Passed, windowRun, wholeRoom, mostTurns}
-use Rattle.tray.specs.AsCoded.Held.{trayOf, runAtStart, passedOf}
+use Rattle.tray.specs.AsCoded.Held.{trayOf, heldAtStart, passedOf}
 use Rattle.tray.proofs.RoomLaws.{whole-tray, whole-count, whole-bytes}
 use Rattle.listrabor.specs.Lent.{sizeRefusal, lent, lentRun}
 use Rattle.listrabor.proofs.TextLaws.{used, refused-answers-0}
@@ -40,17 +40,17 @@ module _ (recording ram out : List ℕ) (number : ℕ)
         go true false is taken = ltb-false (length out) (wholeRoom (length recording)) is
         go false short is taken = absurd (omega (arith, taken))
 
-    pub recording-done : (run : Run) (left : Ran) (places ram′ out′ : List ℕ)
-        → length out < 2 ^ 64 → run ≡ runAtStart
+    pub recording-done : (run : HeldTray) (left : HeldPassed) (places ram′ out′ : List ℕ)
+        → length out < 2 ^ 64 → run ≡ heldAtStart
         → passedOf left places ram′ out′
         ≡ windowRun (trayOf run (replicate 256 0) ram) recording true out
         → lent (left .put) ram′ out′ ≡ lentRun recording ram out
-    unfolding trayOver runAtStart
+    unfolding trayOver heldAtStart
     recording-done run left places ram′ out′ long at-start is =
         let old : Tray = trayOver ram in
         let few : length recording < mostTurns = omega (arith, long, enough) in
         let done : passedOf left places ram′ out′ ≡ windowRun old recording true out =
-        is ∙ ap (λ (first : Run). windowRun (trayOf first (replicate 256 0) ram) recording true out)
+        is ∙ ap (λ (first : HeldTray). windowRun (trayOf first (replicate 256 0) ram) recording true out)
         at-start in
         ap (λ (call : Passed). lent (call .put) (call .tray .card .ram) (call .out)) done
         ∙ rw (

@@ -6,7 +6,7 @@ ghost use Rattle.listrabor.specs.Lent.{roomFor, sizeRefusal, lent, lentR
 use card::place::CARD_WORDS;
 use lines::LINE_ROOM;
 use tray;
-use tray::Run;
+use tray::Tray;
 
 // The bytes of text that a byte of a recording brings at the most.
 const LINE_BYTES: usize = 21;
@@ -54,7 +54,7 @@ pub extern "C" fn listrabor_run(recording: &[u8], ram: &mut [u16], out: &mut [u8
         return 0;
     }
     let mut places: [u16; 256] = [0; 256];
-    let run = Run::at_start();
-    let ran = tray::run_window(run, &mut places, ram, recording, out, true);
-    ran.put
+    let tray = Tray::at_start();
+    let passed = tray::run_window(tray, &mut places, ram, recording, out, true);
+    passed.put
 }

@@ -40,7 +40,7 @@ unfoldable pub fitOpen : ℕ → ℕ → OpenMessage → Bool
 fitOpen blocks station message =
     (eqb (addressOf (message .command)) station || isBroadcast (message .command))
     && isBlock blocks (message .block)
-    && isBlock blocks (message .home)
+    && isBlock blocks (message .table)
     && leb (message .taken) (asks message .takes)
     && fitSecond (message .second) station (message .command) (asks message .receive)
     && fitStage (message .stage) (asks message .illegal) (message .second) (message .taken)

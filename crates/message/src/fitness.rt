@@ -47,7 +47,7 @@ fn is_fit_open(blocks: u16, station: u16, message: OpenMessage) -> bool
     let fit_stage = is_fit_stage(stage, asked.illegal, second, message.taken);
     ((address == station) | broadcast)
         & (message.block.0 < blocks)
-        & (message.home.0 < blocks)
+        & (message.table.0 < blocks)
         & (message.taken <= asked.takes)
         & fit_second
         & fit_stage

@@ -28,7 +28,7 @@ pub struct OpenMessage {
     pub line: bool,
     pub block: Block,
     // the table block at the opening
-    pub home: Block,
+    pub table: Block,
     // the host has set the table block since
     pub moved: bool,
     pub busy: bool,
@@ -53,12 +53,12 @@ impl OpenMessage {
         ensures { λ message. ⌜ message ≡ further stage second taken self ⌝ }
     {
         let block = self.block;
-        let home = self.home;
+        let table = self.table;
         OpenMessage {
             command: self.command,
             line: self.line,
             block: block,
-            home: home,
+            table: table,
             moved: self.moved,
             busy: self.busy,
             queued: self.queued,

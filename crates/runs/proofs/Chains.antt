@@ -20,7 +20,7 @@ use Rattle.message.specs.declared.state.Message.the-variants.{Open}
 use Rattle.bus.specs.declared.word.Word.{Word}
 use Rattle.queue.specs.Queue.{emptyQueue}
 use Rattle.terminal.specs.State.{Card, card, coreAtSetup}
-use Rattle.terminal.specs.Event.{Event, word, queueRead, tableMove, afresh}
+use Rattle.terminal.specs.Event.{Event, word, readQueue, moveTable, afresh}
 use Rattle.terminal.specs.Machine.{step, run}
 use Rattle.bus.specs.Word.{wordOf}
 use Rattle.terminal_laws.specs.Closes.{
@@ -79,7 +79,7 @@ received moved taken =
       command = 0x2862;
       line = false;
       block = theBlock 2;
-      home = theBlock 1;
+      table = theBlock 1;
       moved = moved;
       busy = false;
       queued = true;
@@ -164,12 +164,12 @@ the-block-of-4003 = refl
 -- the next opening takes it, with a queue read between
 the-next-opening-takes-block-3 :
     OpenIn 0x4003
-    (step (word again) (run (queueRead ∷ []) (step quiet filled .card)) .card .core .message)
+    (step (word again) (run (readQueue ∷ []) (step quiet filled .card)) .card .core .message)
 unfolding runs small Untouched
 the-next-opening-takes-block-3 =
     let closed : Card = step quiet filled .card in
-    let read : Card = step queueRead closed .card in
-    next-opening-takes filled (received false 2) quiet (queueRead ∷ []) again at-the-sound-end
+    let read : Card = step readQueue closed .card in
+    next-opening-takes filled (received false 2) quiet (readQueue ∷ []) again at-the-sound-end
     (record {
       untouched = (
         action-may-write-nothing closed a-queue-read,
@@ -215,7 +215,7 @@ a-table-that-was-set-would-differ : Chains AnyTable (λ link. link) → ⊥
 unfolding runs small
 a-table-that-was-set-would-differ claim =
     let differs : _≡_ {A = ℕ} 0x4002 0x4003 =
-    claim (fourBlocks (receive ∷ tableMove (theBlock 1) ∷ word1 ∷ word2 ∷ [])) (received true 2)
+    claim (fourBlocks (receive ∷ moveTable (theBlock 1) ∷ word1 ∷ word2 ∷ [])) (received true 2)
     quiet
     (record {
       with-block = record { is-open = refl; has-block = refl };
@@ -273,7 +273,7 @@ other-cells-would-differ claim =
       command = 0x2C62;
       line = false;
       block = theBlock 1;
-      home = theBlock 1;
+      table = theBlock 1;
       moved = false;
       busy = false;
       queued = false;

@@ -40,10 +40,10 @@ use Rattle.terminal.specs.Event.{openedBy}
 use Rattle.terminal.specs.WordStep.{wordDone, wordStep}
 use Rattle.terminal.specs.SilenceStep.{silenceDone, silenceStep}
 use Rattle.terminal.specs.Machine.{
-  queueReadStep,
+  readQueueStep,
   hostWriteStep,
-  tableMoveStep,
-  flagsWriteStep,
+  moveTableStep,
+  setFlagsStep,
   step,
   run,
 }
@@ -104,7 +104,7 @@ unfolding wordDone wordStep silenceDone silenceStep
 steps = 0
 
 hostSteps : ℕ
-unfolding queueReadStep hostWriteStep tableMoveStep flagsWriteStep step run
+unfolding readQueueStep hostWriteStep moveTableStep setFlagsStep step run
 hostSteps = 0
 
 fitness : ℕ

@@ -28,8 +28,8 @@ unsoundWord value time = 2 ∷ pair 7 ++ (8 ∷ pair value ++ (pair 0 ++ pair ti
 abbrev pub silence : ℕ → ℕ → List ℕ
 silence high low = 3 ∷ pair 5 ++ (0 ∷ pair high ++ pair low)
 
-abbrev pub queueRead : List ℕ
-queueRead = 4 ∷ pair 0
+abbrev pub readQueue : List ℕ
+readQueue = 4 ∷ pair 0
 
 abbrev pub hostWrite : ℕ → ℕ → List ℕ
 hostWrite address word = 5 ∷ pair 4 ++ (pair address ++ pair word)
@@ -72,7 +72,7 @@ marked =
     -- (a) 01's run prints S 2800, Q 8002, END 8
     case
     (tray ++ (command 0x2862 0 0x28 ++ (dataWord 0x1111 0x3C ++ (dataWord 0x2222 0x50
-    ++ (silence 0 0x64 ++ queueRead)))))
+    ++ (silence 0 0x64 ++ readQueue)))))
     (83 ∷ 32 ∷ 50 ∷ 56 ∷ 48 ∷ 48 ∷ 10
     ∷ 81 ∷ 32 ∷ 56 ∷ 48 ∷ 48 ∷ 50 ∷ 10
     ∷ 69 ∷ 78 ∷ 68 ∷ 32 ∷ 56 ∷ 10 ∷ [])
@@ -82,7 +82,7 @@ marked =
     -- (b) the second data word unsound: no S
     ∷ case
     (tray ++ (command 0x2862 0 0x28 ++ (dataWord 0x1111 0x3C ++ (unsoundWord 0x2222 0x50
-    ++ (silence 0 0x64 ++ queueRead)))))
+    ++ (silence 0 0x64 ++ readQueue)))))
     (queueLine 0x8002 ++ endLine 8)
     0x2C00
     (cell 186 0x4101 ∷ cell 189 0x0028 ∷ cell 67 0x4003 ∷ [])
@@ -113,13 +113,13 @@ marked =
     ∷ case
     (setup 5 1 0 ++ (hostWrite 0x0061 0x4002 ++ (hostWrite 0x00BF 0x4002
     ++ (times 256 (command 0x2C21 0 0x28 ++ silence 0 0x64) ++ (hostWrite 0x0061 0x4003
-    ++ (command 0x2C21 0 0x28 ++ (silence 0 0x64 ++ times 257 queueRead)))))))
+    ++ (command 0x2C21 0 0x28 ++ (silence 0 0x64 ++ times 257 readQueue)))))))
     (times 257 (statusLine 0x2800 (0 ∷ [])) ++ (times 256 (queueLine 0x8402)
     ++ (queueLine 0x0400 ++ endLine 775)))
     0x2800
     (cell 97 0 ∷ cell 250 0x0001 ∷ [])
     -- (i) an empty queue reads 0000
-    ∷ case (setup 5 1 0 ++ queueRead) (queueLine 0x0000 ++ endLine 2) 0x2800 []
+    ∷ case (setup 5 1 0 ++ readQueue) (queueLine 0x0000 ++ endLine 2) 0x2800 []
     -- (j) link 0103 names block 3
     ∷ case
     (setup 5 1 0 ++ (hostWrite 0x0043 0x4002 ++ (hostWrite 0x00BF 0x0103

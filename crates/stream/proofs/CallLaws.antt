@@ -10,8 +10,8 @@ use lib.Seq.{sets, slice, sets-eq, length-sets, length-slice, length-take-le, ta
 use borrow.Author.Tests.{le-leb}
 use Rattle.rules.proofs.Clash.{clash}
 use Rattle.lines.specs.Written.{Put, put}
-use Rattle.tray.specs.declared.window.Ran.{Ran}
-use Rattle.tray.specs.declared.run.Run.{Run}
+use Rattle.tray.specs.declared.window.Passed.{Passed as HeldPassed}
+use Rattle.tray.specs.declared.run.Tray.{Tray as HeldTray}
 use Rattle.tray.specs.declared.window.Stop.{Stop}
 use Rattle.tray.specs.declared.window.Stop.the-variants.{Going, Hungry, Full, Over}
 use Rattle.tray.specs.Run.{Tray}
@@ -24,7 +24,7 @@ use Rattle.stream.specs.AsCoded.Turns.{
   RoomToRead,
   ReadOn,
   Stepped,
-  Settled,
+  AfterCall,
   breaks-off,
   stays,
   ends-run,
@@ -65,15 +65,15 @@ rest-kept window at have window′ left inside is =
 
 -- ---- a call
 
-pub call-steps : (old : Run) (places ram window : List ℕ) (have : ℕ) (ended : Bool) (out : List ℕ)
-    (ran : Ran) (places′ ram′ out′ window′ : List ℕ) (left : ℕ) (failed : Bool)
+pub call-steps : (old : HeldTray) (places ram window : List ℕ) (have : ℕ) (ended : Bool) (out : List ℕ)
+    (ran : HeldPassed) (places′ ram′ out′ window′ : List ℕ) (left : ℕ) (failed : Bool)
     → Buffers have window out
     → passedOf ran places′ ram′ out′
     ≡ windowRun (trayOf old places ram) (take (have - 0) (drop 0 window)) ended out
     → (failed ≡ true → ran .put ≢ 0)
     → put left window′ ≡ keptRest window (ran .at) have
-    → Stepped (trayOf old places ram) window have ended (trayOf (ran .run) places′ ram′) window′
-    (record { run = ran .run; have = left; ended = ended; over = failed; whole = false })
+    → Stepped (trayOf old places ram) window have ended (trayOf (ran .tray) places′ ram′) window′
+    (record { tray = ran .tray; have = left; ended = ended; over = failed; whole = false })
     (ran .stop)
 call-steps old places ram window have ended out ran places′ ram′ out′ window′ left failed buffers
     is-ran lines is-kept =
@@ -128,7 +128,7 @@ call-steps old places ram window have ended out ran places′ ram′ out′ wind
     rest : Rest window (ran .at) have window′ left
     rest = rest-kept window (ran .at) have window′ left (buffers .inside) is-kept
 
-pub lines-inside : (old : Tray) (window : List ℕ) (last : Bool) (out : List ℕ) (ran : Ran)
+pub lines-inside : (old : Tray) (window : List ℕ) (last : Bool) (out : List ℕ) (ran : HeldPassed)
     (places ram out′ : List ℕ)
     → passedOf ran places ram out′ ≡ windowRun old window last out → ran .put ≤ length out′
 lines-inside old window last out ran places ram out′ is =
@@ -147,36 +147,36 @@ no-failure lines is = absurd (clash (cc))
 -- ---- what it leaves to do
 
 module _ (pump : Pump) (window : List ℕ) (stop : Stop) where
-  pub settled-broken : pump .over ≡ true → Settled pump window stop pump window
-  settled-broken broken = breaks-off broken
+  pub call-broke : pump .over ≡ true → AfterCall pump window stop pump window
+  call-broke broken = breaks-off broken
 
-  pub settled-going : pump .over ≡ false → stop ≡ Going → Settled pump window stop pump window
-  settled-going taken is =
+  pub call-going : pump .over ≡ false → stop ≡ Going → AfterCall pump window stop pump window
+  call-going taken is =
       stays taken (λ same. going-over (sym is ∙ same)) (λ same. going-hungry (sym is ∙ same))
 
-  pub settled-full : pump .over ≡ false → stop ≡ Full → Settled pump window stop pump window
-  settled-full taken is =
+  pub call-full : pump .over ≡ false → stop ≡ Full → AfterCall pump window stop pump window
+  call-full taken is =
       stays taken (λ same. full-over (sym is ∙ same)) (λ same. full-hungry (sym is ∙ same))
 
-  pub settled-over : (next : Pump) → pump .over ≡ false → stop ≡ Over
+  pub call-over : (next : Pump) → pump .over ≡ false → stop ≡ Over
       → next ≡ record {
-        run = pump .run;
+        tray = pump .tray;
         have = pump .have;
         ended = pump .ended;
         over = true;
         whole = true;
       }
-      → Settled pump window stop next window
-  settled-over next taken is is-next = rw is (ends-run taken is-next)
+      → AfterCall pump window stop next window
+  call-over next taken is is-next = rw is (ends-run taken is-next)
 
-  pub settled-reads : (next : Pump) (window′ : List ℕ) → pump .over ≡ false → stop ≡ Hungry
-      → ReadOn pump window next window′ → Settled pump window stop next window′
-  settled-reads next window′ taken is read = rw is (reads-on taken read)
+  pub call-reads : (next : Pump) (window′ : List ℕ) → pump .over ≡ false → stop ≡ Hungry
+      → ReadOn pump window next window′ → AfterCall pump window stop next window′
+  call-reads next window′ taken is read = rw is (reads-on taken read)
 
 pub ruleset settling = (
-  settled-broken,
-  settled-going,
-  settled-full,
-  settled-over,
-  settled-reads,
+  call-broke,
+  call-going,
+  call-full,
+  call-over,
+  call-reads,
 )

@@ -9,9 +9,9 @@ use lib.ListN.{length, take, replicate}
 use Rattle.rules.proofs.Clash.{clash}
 use Rattle.card.specs.Memory.{cardWords}
 use Rattle.queue.specs.Queue.{queuePlaces}
-use Rattle.tray.specs.declared.run.Run.{Run}
+use Rattle.tray.specs.declared.run.Tray.{Tray as HeldTray}
 use Rattle.tray.specs.Run.{Tray, trayAtStart}
-use Rattle.tray.specs.AsCoded.Held.{trayOf, runAtStart}
+use Rattle.tray.specs.AsCoded.Held.{trayOf, heldAtStart}
 use Rattle.stream.specs.declared.Pump.{Pump}
 use Rattle.stream.specs.declared.Done.{Done}
 use Rattle.stream.specs.Progress.{bufferBytes, starts}
@@ -22,7 +22,7 @@ use Rattle.stream.proofs.ProgressLaws.{few-turns}
 -- what the loop keeps, with so many turns left
 pub record Pumping (pump : Pump) (places ram window out : List ℕ) (left : ℕ) : Type 0 where
   pub turns : ℕ
-  pub so-far : Pumped trayAtStart turns (trayOf (pump .run) places ram) (take (pump .have) window)
+  pub so-far : Pumped trayAtStart turns (trayOf (pump .tray) places ram) (take (pump .have) window)
       (pump .ended) (pump .over) (pump .whole)
   pub all-turns : turns + left ≡ allTurns
   pub buffers : Buffers (pump .have) window out
@@ -30,13 +30,13 @@ pub record Pumping (pump : Pump) (places ram window out : List ℕ) (left : ℕ)
 -- ---- the first turn
 
 -- over memory of zeros
-zero-memory : trayOf runAtStart (replicate queuePlaces 0) (replicate cardWords 0) ≡ trayAtStart
-unfolding runAtStart trayAtStart
+zero-memory : trayOf heldAtStart (replicate queuePlaces 0) (replicate cardWords 0) ≡ trayAtStart
+unfolding heldAtStart trayAtStart
 zero-memory = refl
 
-pub pumping-start : (run : Run) (window out : List ℕ) → run ≡ runAtStart
+pub pumping-start : (run : HeldTray) (window out : List ℕ) → run ≡ heldAtStart
     → length window ≡ bufferBytes → length out ≡ bufferBytes
-    → Pumping (record { run = run; have = 0; ended = false; over = false; whole = false })
+    → Pumping (record { tray = run; have = 0; ended = false; over = false; whole = false })
     (replicate queuePlaces 0) (replicate cardWords 0) window out allTurns
 pumping-start run window out is window-size out-size =
     record {
@@ -62,8 +62,8 @@ pub pumping-on : (pump next : Pump) (places ram window out places′ ram′ wind
     → Pumping pump places ram window out left
     → 0 < left
     → pump .over ≡ false
-    → Turned (trayOf (pump .run) places ram) window (pump .have) (pump .ended)
-    (trayOf (next .run) places′ ram′) window′ next
+    → Turned (trayOf (pump .tray) places ram) window (pump .have) (pump .ended)
+    (trayOf (next .tray) places′ ram′) window′ next
     → length window′ ≡ length window
     → length out′ ≡ length out
     → Pumping next places′ ram′ window′ out′ (left - 1)
@@ -86,8 +86,8 @@ pumping-on pump next places ram window out places′ ram′ window′ out′ lef
 module _ (pump : Pump) (places ram window out : List ℕ) (left : ℕ) (done : Done) where
   -- the program is over
   pub pumping-over : Pumping pump places ram window out left → pump .over ≡ true
-      → done ≡ record { run = pump .run; whole = pump .whole }
-      → Came trayAtStart (trayOf (done .run) places ram) (done .whole)
+      → done ≡ record { tray = pump .tray; whole = pump .whole }
+      → Came trayAtStart (trayOf (done .tray) places ram) (done .whole)
   pumping-over so-far is is-done = rw is-done (came (so-far .so-far) is) where
     came : {new : Tray} {turns : ℕ} {rest : List ℕ} {ended stopped whole : Bool}
         → Pumped trayAtStart turns new rest ended stopped whole → stopped ≡ true
@@ -97,8 +97,8 @@ module _ (pump : Pump) (places ram window out : List ℕ) (left : ℕ) (done : D
 
   -- no turn is left
   pub pumping-spent : Pumping pump places ram window out left → left ≤ 0
-      → done ≡ record { run = pump .run; whole = pump .whole }
-      → Came trayAtStart (trayOf (done .run) places ram) (done .whole)
+      → done ≡ record { tray = pump .tray; whole = pump .whole }
+      → Came trayAtStart (trayOf (done .tray) places ram) (done .whole)
   pumping-spent so-far none is-done =
       rw is-done (came (omega (arith, so-far .all-turns, none)) (so-far .so-far)) where
         came : {new : Tray} {turns : ℕ} {rest : List ℕ} {ended stopped whole : Bool}

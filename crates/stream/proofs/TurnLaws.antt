@@ -37,7 +37,7 @@ use Rattle.stream.specs.AsCoded.Turns.{
   isFailure,
   ReadOn,
   Stepped,
-  Settled,
+  AfterCall,
   Turned,
   breaks-off,
   stays,
@@ -60,7 +60,7 @@ no-piece (byte ∷ rest) none = absurd (omega arith)
 -- what a call leaves to do is done
 module _ {start old : Tray} {turns : ℕ} {window : List ℕ} {have : ℕ} {ended : Bool}
     (places ram window′ : List ℕ) (pump : Pump) (stop : Stop)
-    (step : Stepped old window have ended (trayOf (pump .run) places ram) window′ pump stop)
+    (step : Stepped old window have ended (trayOf (pump .tray) places ram) window′ pump stop)
     (so-far : Reached start turns ended old (take have window)) where
   -- before the call
   far : Far
@@ -74,7 +74,7 @@ module _ {start old : Tray} {turns : ℕ} {window : List ℕ} {have : ℕ} {ende
       }
 
   -- the call, where it is the last
-  last : LastCall start (trayOf (pump .run) places ram)
+  last : LastCall start (trayOf (pump .tray) places ram)
   unfolding far
   last =
       record {
@@ -88,7 +88,7 @@ module _ {start old : Tray} {turns : ℕ} {window : List ℕ} {have : ℕ} {ende
   -- as far as a turn has come
   reached : (next : Far) {left : List ℕ} → Progressed start (suc turns) next
       → next .tray ≡ afterCall far (step .out) .tray → next .window ≡ left
-      → Reached start (suc turns) (next .ended) (trayOf (pump .run) places ram) left
+      → Reached start (suc turns) (next .ended) (trayOf (pump .tray) places ram) left
   unfolding far
   reached next progressed is-tray is-left =
       rw (step .is-new ∙ sym is-tray, ← is-left)
@@ -96,7 +96,7 @@ module _ {start old : Tray} {turns : ℕ} {window : List ℕ} {have : ℕ} {ende
 
   -- it took a field, and leaves nothing to do
   stayed : stop ≢ Over → stop ≢ Hungry
-      → Reached start (suc turns) ended (trayOf (pump .run) places ram) (take (pump .have) window′)
+      → Reached start (suc turns) ended (trayOf (pump .tray) places ram) (take (pump .have) window′)
   unfolding far
   stayed other nor =
       let full : stop ≡ Full = is-full stop (step .stops) other nor in
@@ -106,7 +106,7 @@ module _ {start old : Tray} {turns : ℕ} {window : List ℕ} {have : ℕ} {ende
 
   -- a read behind what the call left: it failed, brought nothing, or brought a piece
   by-read : (next : Pump) (window″ : List ℕ) → stop ≡ Hungry → ReadOn pump window′ next window″
-      → Pumped start (suc turns) (trayOf (next .run) places ram) (take (next .have) window″)
+      → Pumped start (suc turns) (trayOf (next .tray) places ram) (take (next .have) window″)
       (next .ended) (next .over) (next .whole)
   unfolding far last
   by-read next window″ hungry read =
@@ -125,7 +125,7 @@ module _ {start old : Tray} {turns : ℕ} {window : List ℕ} {have : ℕ} {ende
             ap (λ (left : List ℕ). left ++ piece) (sym (step .is-left)) ∙ sym (read .grown .behind)
 
         go : (failed nothing : Bool) → eqb (heard .have) (pump .have) ≡ nothing
-            → Pumped start (suc turns) (trayOf (pump .run) places ram)
+            → Pumped start (suc turns) (trayOf (pump .tray) places ram)
             (take (heard .have) window″) nothing failed false
         go true nothing is = over (unread last (step .is-stop ∙ hungry))
         go false true is =
@@ -145,47 +145,47 @@ module _ {start old : Tray} {turns : ℕ} {window : List ℕ} {have : ℕ} {ende
             (omega (arith, read .grown .is-more, other))) refl all)
 
 -- so far has the program come when that is done
-settled-so : {start old : Tray} {turns : ℕ} {window : List ℕ} {have : ℕ} {ended : Bool}
+after-call-so : {start old : Tray} {turns : ℕ} {window : List ℕ} {have : ℕ} {ended : Bool}
     (places ram window′ : List ℕ) (pump next : Pump) (stop : Stop) (window″ : List ℕ)
-    → Stepped old window have ended (trayOf (pump .run) places ram) window′ pump stop
-    → Settled pump window′ stop next window″
+    → Stepped old window have ended (trayOf (pump .tray) places ram) window′ pump stop
+    → AfterCall pump window′ stop next window″
     → Reached start turns ended old (take have window)
-    → Pumped start (suc turns) (trayOf (next .run) places ram) (take (next .have) window″)
+    → Pumped start (suc turns) (trayOf (next .tray) places ram) (take (next .have) window″)
     (next .ended) (next .over) (next .whole)
 unfolding last far
-settled-so places ram window′ pump next stop window″ step (breaks-off broken) so-far =
+after-call-so places ram window′ pump next stop window″ step (breaks-off broken) so-far =
     rw (broken, step .not-whole)
     (over (broken-off (last places ram window′ pump stop step so-far) (step .breaks broken)))
-settled-so places ram window′ pump next stop window″ step (stays taken other nor) so-far =
+after-call-so places ram window′ pump next stop window″ step (stays taken other nor) so-far =
     rw (step .same-end, taken, step .not-whole)
     (going (stayed places ram window′ pump stop step so-far other nor))
-settled-so places ram window′ pump next stop window″ step (ends-run taken is-next) so-far =
+after-call-so places ram window′ pump next stop window″ step (ends-run taken is-next) so-far =
     rw is-next
     (over (finished (last places ram window′ pump stop step so-far) (step .is-stop)))
-settled-so places ram window′ pump next stop window″ step (reads-on taken read) so-far =
+after-call-so places ram window′ pump next stop window″ step (reads-on taken read) so-far =
     by-read places ram window′ pump stop step so-far next window″ refl read
 
 -- and its bytes are inside the window
-settled-inside : (pump next : Pump) (window : List ℕ) (stop : Stop) (window′ : List ℕ)
-    → pump .have ≤ length window → Settled pump window stop next window′
+after-call-inside : (pump next : Pump) (window : List ℕ) (stop : Stop) (window′ : List ℕ)
+    → pump .have ≤ length window → AfterCall pump window stop next window′
     → next .have ≤ length window′
-settled-inside pump next window stop window′ inside (breaks-off _) = inside
-settled-inside pump next window stop window′ inside (stays _ _ _) = inside
-settled-inside pump next window stop window′ inside (ends-run _ is-next) = rw is-next inside
-settled-inside pump next window stop window′ inside (reads-on _ read) =
+after-call-inside pump next window stop window′ inside (breaks-off _) = inside
+after-call-inside pump next window stop window′ inside (stays _ _ _) = inside
+after-call-inside pump next window stop window′ inside (ends-run _ is-next) = rw is-next inside
+after-call-inside pump next window stop window′ inside (reads-on _ read) =
     rw (read .is-new) (read .grown .inside)
 
 -- a call, and what it leaves to do, is a turn
 pub turned-so : (old : Tray) (called next : Pump) (stop : Stop) (have : ℕ) (ended : Bool)
     (window places ram window′ window″ : List ℕ)
-    → Stepped old window have ended (trayOf (called .run) places ram) window′ called stop
-    → Settled called window′ stop next window″
-    → Turned old window have ended (trayOf (next .run) places ram) window″ next
-turned-so old called next stop have ended window places ram window′ window″ step settled =
+    → Stepped old window have ended (trayOf (called .tray) places ram) window′ called stop
+    → AfterCall called window′ stop next window″
+    → Turned old window have ended (trayOf (next .tray) places ram) window″ next
+turned-so old called next stop have ended window places ram window′ window″ step behind =
     record {
       leads =
-          λ so-far. settled-so places ram window′ called next stop window″ step settled so-far;
-      inside = settled-inside called next window′ stop window″ (step .inside) settled;
+          λ so-far. after-call-so places ram window′ called next stop window″ step behind so-far;
+      inside = after-call-inside called next window′ stop window″ (step .inside) behind;
     }
 
 -- where the call needs bytes, it has left room to read them

@@ -8,7 +8,7 @@ use native.Mathlib.Omega.{arith}
 use lib.ListN.{length}
 use Rattle.tray.specs.declared.window.Stop.the-variants.{Over}
 use Rattle.tray.specs.Run.{Tray, trayAtStart, whole, wholeFrom}
-use Rattle.tray.specs.AsCoded.Pieces.{linesOf, Streamed, begins, reads, ends, calls, Finished}
+use Rattle.tray.specs.AsCoded.Pieces.{linesPut, Streamed, begins, reads, ends, calls, Finished}
 use Rattle.tray.specs.AsCoded.Window.{windowRun}
 use Rattle.tray.proofs.EndLaws.{unread-untouched}
 use Rattle.tray.proofs.PieceLaws.{finished-prints}
@@ -34,7 +34,7 @@ pub record PrintedWhole (new : Tray) : Type 0 where
 
 -- a run whose last call is over is finished
 is-finished : {start new : Tray} (last : LastCall start new) → theCall last .stop ≡ Over
-    → Finished start (last .before .input) (last .before .text ++ linesOf (theCall last)) new
+    → Finished start (last .before .input) (last .before .text ++ linesPut (theCall last)) new
 is-finished last is-over =
     record {
       ended = last .before .ended;
@@ -56,7 +56,7 @@ whole-run-prints new came = by-end true refl came where
       let done = is-finished last is-over in
       record {
         input = last .before .input;
-        text = last .before .text ++ linesOf (theCall last);
+        text = last .before .text ++ linesPut (theCall last);
         is-finished = done;
         as-defined = finished-prints trayAtStart _ _ new done;
       }

@@ -9,7 +9,7 @@ use lib.ListN.{length, drop}
 use Rattle.tray.specs.declared.window.Stop.the-variants.{Hungry, Full}
 use Rattle.tray.specs.Run.{Tray}
 use Rattle.tray.specs.AsCoded.Window.{Passed, windowRun}
-use Rattle.tray.specs.AsCoded.Pieces.{linesOf}
+use Rattle.tray.specs.AsCoded.Pieces.{linesPut}
 
 -- the window has so many bytes, and so has the buffer for the lines
 abbrev pub bufferBytes : ℕ
@@ -38,7 +38,7 @@ afterCall far out =
     record {
       ended = far .ended;
       input = far .input;
-      text = far .text ++ linesOf (callAt far out);
+      text = far .text ++ linesPut (callAt far out);
       tray = callAt far out .tray;
       window = drop (callAt far out .at) (far .window);
     }

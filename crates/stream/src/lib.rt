@@ -17,7 +17,7 @@ ghost use Rattle.stream.specs.AsCoded.Turns.{
   afterRead,
   ReadOn,
   Stepped,
-  Settled,
+  AfterCall,
   Turned,
 };
 use io;
@@ -25,13 +25,13 @@ use libc;
 use libc::STDIN_FILENO;
 use libc::STDOUT_FILENO;
 use tray;
-use tray::Run;
+use tray::Tray;
 use tray::Stop;
 
 // How far a program has come: the run, the bytes in its window, whether the input has ended,
 // whether the program has, and whether by the run's own end with every line taken.
 struct Pump {
-    run: Run,
+    tray: Tray,
     have: usize,
     ended: bool,
     over: bool,
@@ -47,7 +47,7 @@ struct Called {
 // What a run leaves, and whether it is whole: it came to its own end, and the operating system took
 // every line of it.
 pub struct Done {
-    pub run: Run,
+    pub tray: Tray,
     pub whole: bool,
 }
 
@@ -93,7 +93,7 @@ fn fails_to_write(out: &[u8], put: usize) -> bool
 impl Pump {
     fn finished(mut self) -> Pump
         ensures { λ pump. ⌜ pump ≡ record {
-          run = self .run;
+          tray = self .tray;
           have = self .have;
           ended = self .ended;
           over = true;
@@ -106,11 +106,11 @@ impl Pump {
     }
 
     fn done(self) -> Done
-        ensures { λ done. ⌜ done ≡ record { run = self .run; whole = self .whole } ⌝ }
+        ensures { λ done. ⌜ done ≡ record { tray = self .tray; whole = self .whole } ⌝ }
     {
-        let run = self.run;
+        let tray = self.tray;
         Done {
-            run: run,
+            tray: tray,
             whole: self.whole,
         }
     }
@@ -120,10 +120,10 @@ impl Pump {
     fn after_read(self, heard: Heard) -> Pump
         ensures { λ pump. ⌜ pump ≡ afterRead self heard ⌝ }
     {
-        let run = self.run;
+        let tray = self.tray;
         let failed = is_failure(heard.answer);
         Pump {
-            run: run,
+            tray: tray,
             have: heard.have,
             ended: heard.have == self.have,
             over: failed,
@@ -151,22 +151,22 @@ impl Pump {
     ) -> Called
         requires { ⌜ Buffers (self .have) (now window) (now out) ⌝ }
         ensures { λ left. ⌜ Stepped
-            (trayOf (self .run) (now (places .entry)) (now (ram .entry)))
+            (trayOf (self .tray) (now (places .entry)) (now (ram .entry)))
             (now (window .entry)) (self .have) (self .ended)
-            (trayOf (left .pump .run) (now (places .exit)) (now (ram .exit)))
+            (trayOf (left .pump .tray) (now (places .exit)) (now (ram .exit)))
             (now (window .exit)) (left .pump) (left .stop) ⌝ }
     {
-        let run = self.run;
+        let tray = self.tray;
         let have = self.have;
-        let ran = tray::run_window(run, places, ram, &window[0..have], out, self.ended);
-        let new = ran.run;
-        let stop = ran.stop;
-        let put = ran.put;
+        let passed = tray::run_window(tray, places, ram, &window[0..have], out, self.ended);
+        let new = passed.tray;
+        let stop = passed.stop;
+        let put = passed.put;
         let failed = fails_to_write(out, put);
-        let left = tray::keep_rest(window, ran.at, have);
+        let left = tray::keep_rest(window, passed.at, have);
         Called {
             pump: Pump {
-                run: new,
+                tray: new,
                 have: left,
                 ended: self.ended,
                 over: failed,
@@ -178,9 +178,9 @@ impl Pump {
 
     // What a call leaves to do: nothing where its lines were not taken, even if they were the last;
     // a read where it needs bytes.
-    fn settle(self, window: &mut [u8], stop: Stop) -> Pump
+    fn after_call(self, window: &mut [u8], stop: Stop) -> Pump
         requires { ⌜ RoomToRead (self .have) (now window) stop ⌝ }
-        ensures { λ pump. ⌜ Settled self (now (window .entry)) stop pump (now (window .exit)) ⌝ }
+        ensures { λ pump. ⌜ AfterCall self (now (window .entry)) stop pump (now (window .exit)) ⌝ }
     {
         if self.over {
             return self;
@@ -202,22 +202,22 @@ impl Pump {
     ) -> Pump
         requires { ⌜ Buffers (self .have) (now window) (now out) ⌝ }
         ensures { λ pump. ⌜ Turned
-            (trayOf (self .run) (now (places .entry)) (now (ram .entry)))
+            (trayOf (self .tray) (now (places .entry)) (now (ram .entry)))
             (now (window .entry)) (self .have) (self .ended)
-            (trayOf (pump .run) (now (places .exit)) (now (ram .exit)))
+            (trayOf (pump .tray) (now (places .exit)) (now (ram .exit)))
             (now (window .exit)) pump ⌝ }
     {
         let left = self.call(places, ram, window, out);
         let stop = left.stop;
         let next = left.pump;
-        next.settle(window, stop)
+        next.after_call(window, stop)
     }
 }
 
 // Runs the recording on standard input over the lent memory, which starts zero, whatever it held.
 pub fn run_input(places: &mut [u16; 256], ram: &mut [u16; 16384]) -> Done
     ensures { λ done. ⌜ Came trayAtStart
-        (trayOf (done .run) (now (places .exit)) (now (ram .exit)))
+        (trayOf (done .tray) (now (places .exit)) (now (ram .exit)))
         (done .whole) ⌝ }
 {
     *places = [0; 256];
@@ -227,9 +227,9 @@ pub fn run_input(places: &mut [u16; 256], ram: &mut [u16; 16384]) -> Done
     let window: &mut [u8] = &mut bytes;
     let mut lines = io::large_buffer();
     let out: &mut [u8] = &mut lines;
-    let run = Run::at_start();
+    let tray = Tray::at_start();
     let mut pump = Pump {
-        run: run,
+        tray: tray,
         have: 0,
         ended: false,
         over: false,

@@ -71,7 +71,7 @@ module _ (asked : Asked) (state time : ℕ) (message : OpenMessage) (ram : List 
         rw (not-false (asked .block) has, moved, ← is-ticks) is-served
 
     pub ram-with-link : (new : List ℕ) → message .moved ≡ false
-        → new ≡ withLink served (message .block) (message .home) (asked .cell)
+        → new ≡ withLink served (message .block) (message .table) (asked .cell)
         → new ≡ closedRam asked state time message ram
     unfolding closedRam
     ram-with-link new stays is-new =

@@ -30,23 +30,23 @@ use Rattle.terminal.specs.Opening.{
 
 -- ---- busy
 
-pub busy-is : (asked : Asked) (flags entry : ℕ) (marked : Bool) → marked ≡ isBusy entry
-    → (hasBit flags 2 || (asked .block && marked)) ≡ busyAt asked flags entry
-busy-is asked flags entry marked is = rw is
+pub busy-is : (asked : Asked) (flags tableWord : ℕ) (marked : Bool) → marked ≡ isBusy tableWord
+    → (hasBit flags 2 || (asked .block && marked)) ≡ busyAt asked flags tableWord
+busy-is asked flags tableWord marked is = rw is
 
 -- ---- the message
 
-module _ (asked : Asked) (entry : ℕ) (word : Word) (core : Core) where
+module _ (asked : Asked) (tableWord : ℕ) (word : Word) (core : Core) where
   pub message-is : (block : Block) (busy wanted : Bool) (stage : Stage)
-      → block ≡ cond (asked .block) (blockOf entry) (theBlock 0)
-      → busy ≡ busyAt asked (core .flags) entry
-      → wanted ≡ wantsQueue entry
+      → block ≡ cond (asked .block) (blockOf tableWord) (theBlock 0)
+      → busy ≡ busyAt asked (core .flags) tableWord
+      → wanted ≡ wantsQueue tableWord
       → stage ≡ cond (asked .illegal) Skipping Data
       → record {
         command = word .value;
         line = word .line;
         block = block;
-        home = core .table;
+        table = core .table;
         moved = false;
         busy = busy;
         queued = asked .block && wanted;
@@ -54,25 +54,25 @@ module _ (asked : Asked) (entry : ℕ) (word : Word) (core : Core) where
         taken = 0;
         second = Absent;
         stage = stage;
-      } ≡ openedMessage asked entry word core
+      } ≡ openedMessage asked tableWord word core
   unfolding openedMessage
   message-is block busy wanted stage is-block is-busy is-wanted is-stage =
       rw (is-block, is-busy, is-wanted, is-stage)
 
 -- ---- the status
 
-module _ (asked : Asked) (entry : ℕ) (word : Word) (core : Core) where
+module _ (asked : Asked) (tableWord : ℕ) (word : Word) (core : Core) where
   pub status-kept : not (asked .fresh) ≡ true
-      → core .status ≡ openedStatus asked entry word core
+      → core .status ≡ openedStatus asked tableWord word core
   unfolding openedStatus
   status-kept keeps = rw (not-true (asked .fresh) keeps)
 
   pub status-made : (busy : Bool) (status : Status) (made : ℕ) → not (asked .fresh) ≡ false
-      → busy ≡ busyAt asked (core .flags) entry
+      → busy ≡ busyAt asked (core .flags) tableWord
       → status
       ≡ caughtStatus (core .station) (asked .illegal) (word .value) (core .flags) busy (core .inhibit)
       → made ≡ statusWord status
-      → made ≡ openedStatus asked entry word core
+      → made ≡ openedStatus asked tableWord word core
   unfolding openedStatus
   status-made busy status made anew is-busy is-status is-made =
       rw (not-false (asked .fresh) anew, ← is-busy, ← is-status) is-made
@@ -81,10 +81,10 @@ pub ruleset statuses = (status-kept, status-made)
 
 -- ---- all together
 
-module _ (asked : Asked) (entry : ℕ) (word : Word) (core : Core) where
+module _ (asked : Asked) (tableWord : ℕ) (word : Word) (core : Core) where
   pub core-is : (message : OpenMessage) (status last : ℕ)
-      → message ≡ openedMessage asked entry word core
-      → status ≡ openedStatus asked entry word core
+      → message ≡ openedMessage asked tableWord word core
+      → status ≡ openedStatus asked tableWord word core
       → last ≡ cond (asked .last) (core .last) (word .value)
       → record {
         station = core .station;
@@ -95,16 +95,16 @@ module _ (asked : Asked) (entry : ℕ) (word : Word) (core : Core) where
         shut = core .shut;
         inhibit = core .inhibit;
         message = Open message;
-      } ≡ openedCore (openedMessage asked entry word core) asked entry word core
+      } ≡ openedCore (openedMessage asked tableWord word core) asked tableWord word core
   unfolding openedCore withMessage withLast withStatus
   core-is message status last is-message is-status is-last =
       rw (is-message, is-status, is-last)
 
 module _ (word : Word) (core : Core) (ram : List ℕ) where
-  pub opened-is : (asked : Asked) (entry : ℕ) (new : Core)
+  pub opened-is : (asked : Asked) (tableWord : ℕ) (new : Core)
       → asked ≡ askedOf (word .value)
-      → entry ≡ cellAt ram (core .table) (asked .cell)
-      → new ≡ openedCore (openedMessage asked entry word core) asked entry word core
+      → tableWord ≡ cellAt ram (core .table) (asked .cell)
+      → new ≡ openedCore (openedMessage asked tableWord word core) asked tableWord word core
       → new ≡ openedAt word core ram
-  opened-is asked entry new is-asked is-entry is-new =
-      rw (← is-asked, ← is-entry) is-new
+  opened-is asked tableWord new is-asked is-table-word is-new =
+      rw (← is-asked, ← is-table-word) is-new

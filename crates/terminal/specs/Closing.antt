@@ -45,13 +45,13 @@ stateOf code words message =
 
 -- cell 63 into the opening's table cell, unless the host has set the table block since
 abbrev pub linked : Bool → Block → Block → Cell → List ℕ → List ℕ
-linked moved block home cell ram = cond moved ram (withLink ram block home cell)
+linked moved block table cell ram = cond moved ram (withLink ram block table cell)
 
 -- 58 to 61, then the link
 unfoldable pub closedRam : Asked → ℕ → ℕ → OpenMessage → List ℕ → List ℕ
 closedRam asked state time message ram =
     cond (asked .block)
-    (linked (message .moved) (message .block) (message .home) (asked .cell)
+    (linked (message .moved) (message .block) (message .table) (asked .cell)
     (withService ram (message .block) state time (ticksOf (message .opened) time)))
     ram
 

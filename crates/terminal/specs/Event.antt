@@ -19,10 +19,10 @@ use Rattle.terminal.specs.Opening.{opening}
 pub data Event : Type 0 where
   word : Word → Event
   silence : Bool → ℕ → Event
-  queueRead : Event
+  readQueue : Event
   hostWrite : ℕ → List ℕ → Event
-  tableMove : Block → Event
-  flagsWrite : ℕ → Event
+  moveTable : Block → Event
+  setFlags : ℕ → Event
 
 -- what comes back: a reply on the bus, or the word of a queue read
 abbrev pub replied : Reply → Answer

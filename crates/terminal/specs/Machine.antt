@@ -19,10 +19,10 @@ use Rattle.terminal.specs.Event.{
   Event,
   word,
   silence,
-  queueRead,
+  readQueue,
   hostWrite,
-  tableMove,
-  flagsWrite,
+  moveTable,
+  setFlags,
   queueWord,
   none,
   Outcome,
@@ -32,8 +32,8 @@ use Rattle.terminal.specs.WordStep.{wordStep}
 use Rattle.terminal.specs.SilenceStep.{silenceStep}
 
 -- the oldest leaves the queue
-unfoldable pub queueReadStep : Card → Outcome
-queueReadStep old =
+unfoldable pub readQueueStep : Card → Outcome
+readQueueStep old =
     record {
       card =
           withQueue (queue (old .queue .places) (withoutOldest (old .queue .ring))) old;
@@ -47,23 +47,23 @@ hostWriteStep address words old =
     quietly (withRam (sets (old .ram) address words) old)
 
 -- the host sets the table block, which an open message remembers
-unfoldable pub tableMoveStep : Block → Card → Outcome
-tableMoveStep table old =
+unfoldable pub moveTableStep : Block → Card → Outcome
+moveTableStep table old =
     quietly
     (withCore (withTable table (withMessage (movedMessage (old .core .message)) (old .core))) old)
 
 -- the host writes the flags
-unfoldable pub flagsWriteStep : ℕ → Card → Outcome
-flagsWriteStep flags old =
+unfoldable pub setFlagsStep : ℕ → Card → Outcome
+setFlagsStep flags old =
     quietly (withCore (withFlags flags (old .core)) old)
 
 unfoldable pub step : Event → Card → Outcome
 step (word heard) old = wordStep heard old
 step (silence line time) old = silenceStep line time old
-step queueRead old = queueReadStep old
+step readQueue old = readQueueStep old
 step (hostWrite address words) old = hostWriteStep address words old
-step (tableMove table) old = tableMoveStep table old
-step (flagsWrite flags) old = flagsWriteStep flags old
+step (moveTable table) old = moveTableStep table old
+step (setFlags flags) old = setFlagsStep flags old
 
 -- one event after the other
 unfoldable pub run : List Event → Card → Card

@@ -18,20 +18,20 @@ use Rattle.message.specs.Asked.{askedOf}
 
 -- busy: flag 1 or, with a block, the table word's bit 15
 abbrev pub busyAt : Asked → ℕ → ℕ → Bool
-busyAt asked flags entry = hasBit flags 2 || (asked .block && isBusy entry)
+busyAt asked flags tableWord = hasBit flags 2 || (asked .block && isBusy tableWord)
 
--- the message that a word opens; `entry` is its chain's table word. Busy, block and bit 14 are
+-- the message that a word opens; `tableWord` is its chain's table word. Busy, block and bit 14 are
 -- fixed here
 unfoldable pub openedMessage : Asked → ℕ → Word → Core → OpenMessage
-openedMessage asked entry word core =
+openedMessage asked tableWord word core =
     record {
       command = word .value;
       line = word .line;
-      block = cond (asked .block) (blockOf entry) (theBlock 0);
-      home = core .table;
+      block = cond (asked .block) (blockOf tableWord) (theBlock 0);
+      table = core .table;
       moved = false;
-      busy = busyAt asked (core .flags) entry;
-      queued = asked .block && wantsQueue entry;
+      busy = busyAt asked (core .flags) tableWord;
+      queued = asked .block && wantsQueue tableWord;
       opened = word .time;
       taken = 0;
       second = Absent;
@@ -41,32 +41,32 @@ openedMessage asked entry word core =
 -- a legal code 2 keeps remembered status, a legal code 18 also last command; any other opening sets
 -- last command, and remembered status from caught bits
 unfoldable pub openedStatus : Asked → ℕ → Word → Core → ℕ
-openedStatus asked entry word core =
+openedStatus asked tableWord word core =
     cond (asked .fresh)
     (statusWord (caughtStatus (core .station) (asked .illegal) (word .value) (core .flags)
-    (busyAt asked (core .flags) entry) (core .inhibit)))
+    (busyAt asked (core .flags) tableWord) (core .inhibit)))
     (core .status)
 
 unfoldable pub openedCore : OpenMessage → Asked → ℕ → Word → Core → Core
-openedCore message asked entry word core =
+openedCore message asked tableWord word core =
     withMessage (Open message)
     (withLast (cond (asked .last) (core .last) (word .value))
-    (withStatus (openedStatus asked entry word core) core))
+    (withStatus (openedStatus asked tableWord word core) core))
 
 -- ---- over memory
 
 -- the table word of the chain that a command goes by
-abbrev pub entryAt : Word → Core → List ℕ → ℕ
-entryAt word core ram = cellAt ram (core .table) (askedOf (word .value) .cell)
+abbrev pub tableWordAt : Word → Core → List ℕ → ℕ
+tableWordAt word core ram = cellAt ram (core .table) (askedOf (word .value) .cell)
 
 -- the message that a command opens
 abbrev pub openedAs : Word → Core → List ℕ → OpenMessage
-openedAs word core ram = openedMessage (askedOf (word .value)) (entryAt word core ram) word core
+openedAs word core ram = openedMessage (askedOf (word .value)) (tableWordAt word core ram) word core
 
 -- the core after it
 abbrev pub openedAt : Word → Core → List ℕ → Core
 openedAt word core ram =
-    openedCore (openedAs word core ram) (askedOf (word .value)) (entryAt word core ram) word core
+    openedCore (openedAs word core ram) (askedOf (word .value)) (tableWordAt word core ram) word core
 
 unfoldable pub opening : Word → Card → Card
 opening word old = withCore (openedAt word (old .core) (old .ram)) old

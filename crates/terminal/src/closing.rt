@@ -75,7 +75,7 @@ fn close_ram(ram: &mut [u16], asked: Asked, state: u16, time: u32, message: Open
     if moved {
         return;
     }
-    memory::write_link(ram, message.block, message.home, asked.cell);
+    memory::write_link(ram, message.block, message.table, asked.cell);
 }
 
 // If wanted, the block number joins the queue.

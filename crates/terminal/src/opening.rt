@@ -25,18 +25,18 @@ use message::state::Second;
 use message::state::Stage;
 
 // Busy: flag 1 or, with a block, the table word's bit 15.
-fn busy_at(asked: Asked, flags: u16, entry: u16) -> bool
-    ensures { λ busy. ⌜ busy ≡ busyAt asked flags entry ⌝ }
+fn busy_at(asked: Asked, flags: u16, table_word: u16) -> bool
+    ensures { λ busy. ⌜ busy ≡ busyAt asked flags «table_word» ⌝ }
 {
-    let marked = table::is_busy(entry);
+    let marked = table::is_busy(table_word);
     (flags / 2 % 2 == 1) | (asked.block & marked)
 }
 
 // A message without a block has number 0 in its place.
-fn block_at(asked: Asked, entry: u16) -> Block
-    ensures { λ block. ⌜ block ≡ cond (asked .block) (blockOf entry) (theBlock 0) ⌝ }
+fn block_at(asked: Asked, table_word: u16) -> Block
+    ensures { λ block. ⌜ block ≡ cond (asked .block) (blockOf «table_word») (theBlock 0) ⌝ }
 {
-    let named = table::block_of(entry);
+    let named = table::block_of(table_word);
     let has = asked.block;
     if has { named } else { Block(0) }
 }
@@ -53,20 +53,20 @@ fn stage_at(illegal: bool) -> Stage
 }
 
 // The message that a word opens, with what the opening fixes.
-fn opened_message(asked: Asked, entry: u16, word: Word, core: Core) -> OpenMessage
-    ensures { λ message. ⌜ message ≡ openedMessage asked entry word core ⌝ }
+fn opened_message(asked: Asked, table_word: u16, word: Word, core: Core) -> OpenMessage
+    ensures { λ message. ⌜ message ≡ openedMessage asked «table_word» word core ⌝ }
 {
-    let block = block_at(asked, entry);
-    let home = core.table;
-    let busy = busy_at(asked, core.flags, entry);
-    let wanted = table::wants_queue(entry);
+    let block = block_at(asked, table_word);
+    let table = core.table;
+    let busy = busy_at(asked, core.flags, table_word);
+    let wanted = table::wants_queue(table_word);
     let stage = stage_at(asked.illegal);
     let second = Second::Absent;
     OpenMessage {
         command: word.value,
         line: word.line,
         block: block,
-        home: home,
+        table: table,
         moved: false,
         busy: busy,
         queued: asked.block & wanted,
@@ -78,14 +78,14 @@ fn opened_message(asked: Asked, entry: u16, word: Word, core: Core) -> OpenMessa
 }
 
 // A legal code 2 or 18 keeps the remembered status.
-fn opened_status(asked: Asked, entry: u16, word: Word, core: Core) -> u16
-    ensures { λ status. ⌜ status ≡ openedStatus asked entry word core ⌝ }
+fn opened_status(asked: Asked, table_word: u16, word: Word, core: Core) -> u16
+    ensures { λ status. ⌜ status ≡ openedStatus asked «table_word» word core ⌝ }
 {
     let fresh = asked.fresh;
     if !fresh {
         return core.status;
     }
-    let busy = busy_at(asked, core.flags, entry);
+    let busy = busy_at(asked, core.flags, table_word);
     let status = Status::caught(
         core.station,
         asked.illegal,
@@ -105,13 +105,13 @@ fn opened_last(asked: Asked, last: u16, command: u16) -> u16
     if keeps { last } else { command }
 }
 
-fn opened_core(asked: Asked, entry: u16, word: Word, core: Core) -> Core
+fn opened_core(asked: Asked, table_word: u16, word: Word, core: Core) -> Core
     ensures { λ opened. ⌜
-        opened ≡ openedCore (openedMessage asked entry word core) asked entry word core
+        opened ≡ openedCore (openedMessage asked «table_word» word core) asked «table_word» word core
         ⌝ }
 {
-    let message = opened_message(asked, entry, word, core);
-    let status = opened_status(asked, entry, word, core);
+    let message = opened_message(asked, table_word, word, core);
+    let status = opened_status(asked, table_word, word, core);
     let last = opened_last(asked, core.last, word.value);
     let table = core.table;
     let shut = core.shut;
@@ -129,12 +129,12 @@ fn opened_core(asked: Asked, entry: u16, word: Word, core: Core) -> Core
 }
 
 impl Core {
-    // The word opens a message: its chain's entry is read from the table.
+    // The word opens a message: its chain's table word is read.
     pub fn open(self, ram: &[u16], word: Word) -> Core
         ensures { λ opened. ⌜ opened ≡ openedAt word self (now (ram .entry)) ⌝ }
     {
         let asked = asked::asked_of(word.value);
-        let entry = memory::read_cell(ram, self.table, asked.cell);
-        opened_core(asked, entry, word, self)
+        let table_word = memory::read_cell(ram, self.table, asked.cell);
+        opened_core(asked, table_word, word, self)
     }
 }

@@ -62,8 +62,8 @@ module _ (asked : Asked) (state time : ℕ) (message : OpenMessage) (ram : List 
     (has : asked .block ≡ true) where
   -- cells 58 to 61, then cell 63 into the table cell: the link is the one that stood there before
   link-after-closing : message .moved ≡ false → asked .cell .0 < blockCells
-      → wordAddress (message .home) (asked .cell) < length ram
-      → cellAt (closedRam asked state time message ram) (message .home) (asked .cell)
+      → wordAddress (message .table) (asked .cell) < length ram
+      → cellAt (closedRam asked state time message ram) (message .table) (asked .cell)
       ≡ cellAt ram (message .block) (theCell 63)
   unfolding closedRam cellAt
   link-after-closing stays inside in-memory =
@@ -71,21 +71,21 @@ module _ (asked : Asked) (state time : ℕ) (message : OpenMessage) (ram : List 
       let served = withService ram (message .block) state time ticks in
       let keeps = service-keeps (message .block) state time ticks in
       rw (has, stays)
-      (link-moves served (message .block) (message .home) (asked .cell) inside
+      (link-moves served (message .block) (message .table) (asked .cell) inside
       (omega (arith, keeps .same-length ram))
       ∙ keeps .same-else ram (wordAddress (message .block) (theCell 63)) (λ written. omega arith))
 
   -- cells 58 to 61 alone
-  entry-after-a-move : message .moved ≡ true
+  table-word-after-a-move : message .moved ≡ true
       → ((cell : Cell) → 58 ≤ cell .0 → cell .0 ≤ 61
-      → wordAddress (message .home) (asked .cell) ≢ wordAddress (message .block) cell)
-      → cellAt (closedRam asked state time message ram) (message .home) (asked .cell)
-      ≡ cellAt ram (message .home) (asked .cell)
+      → wordAddress (message .table) (asked .cell) ≢ wordAddress (message .block) cell)
+      → cellAt (closedRam asked state time message ram) (message .table) (asked .cell)
+      ≡ cellAt ram (message .table) (asked .cell)
   unfolding closedRam cellAt
-  entry-after-a-move moved apart =
+  table-word-after-a-move moved apart =
       rw (has, moved)
       (service-keeps (message .block) state time (ticksOf (message .opened) time) .same-else ram
-      (wordAddress (message .home) (asked .cell))
+      (wordAddress (message .table) (asked .cell))
       (λ written. apart (written .cell) (written .from) (written .to) (written .is)))
 
 -- the closing puts cell 63 of its block, whole, into the opening's table cell ..
@@ -95,7 +95,7 @@ pub chain-moves-on : (old : Card) (message : OpenMessage) (event : Event)
 chain-moves-on old message event asked =
     let closed = closed-ram old message (asked .with-block .is-open) (asked .closes) in
     ap
-    (λ (ram : List ℕ). cellAt ram (message .home) (asks message .cell))
+    (λ (ram : List ℕ). cellAt ram (message .table) (asks message .cell))
     (closed .is)
     ∙ link-after-closing (asks message) (closed .state) (closed .time) message
     (old .ram) (asked .with-block .has-block) (asked .table-stays)
@@ -111,9 +111,9 @@ pub moved-chain-stays : (old : Card) (message : OpenMessage) (event : Event)
 moved-chain-stays old message event with-block closes moved apart =
     let closed = closed-ram old message (with-block .is-open) closes in
     ap
-    (λ (ram : List ℕ). cellAt ram (message .home) (asks message .cell))
+    (λ (ram : List ℕ). cellAt ram (message .table) (asks message .cell))
     (closed .is)
-    ∙ entry-after-a-move (asks message) (closed .state) (closed .time) message
+    ∙ table-word-after-a-move (asks message) (closed .state) (closed .time) message
     (old .ram) (with-block .has-block) moved apart
 
 -- ---- an opening
@@ -181,7 +181,7 @@ pub superseding-takes : (old : Card) (message : OpenMessage) (heard : Word)
     → OpenIn (linkOf message old) (step (word heard) old .card .core .message)
 superseding-takes old message heard closing by =
     subst
-    (λ (entry : ℕ). OpenIn entry (step (word heard) old .card .core .message))
+    (λ (tableWord : ℕ). OpenIn tableWord (step (word heard) old .card .core .message))
     (chain-moves-on old message (word heard) closing)
     (opening-by message heard old by)
 
@@ -206,7 +206,7 @@ unfolding cellAt
 next-opening-takes old message event between heard closing next =
     let left = run between (step event old .card) in
     subst
-    (λ (entry : ℕ). OpenIn entry (step (word heard) left .card .core .message))
+    (λ (tableWord : ℕ). OpenIn tableWord (step (word heard) left .card .core .message))
     (untouched-stays (tableAddress message) between heard (step event old .card) (next .untouched)
     ∙ chain-moves-on old message event closing)
     (opening-by message heard left (next .opens-by))

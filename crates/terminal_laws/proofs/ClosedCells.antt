@@ -71,12 +71,12 @@ data InClosing (asked : Asked) (message : OpenMessage) (address : ℕ) : Type 0 
   in-service : {cell : Cell} → 58 ≤ cell .0 → cell .0 ≤ 61
       → address ≡ wordAddress (message .block) cell → InClosing asked message address
   in-table : asked .block ≡ true → message .moved ≡ false
-      → address ≡ wordAddress (message .home) (asked .cell) → InClosing asked message address
+      → address ≡ wordAddress (message .table) (asked .cell) → InClosing asked message address
 
 -- the table cell that a closing writes is in another block than its message's
 abbrev pub TableElsewhere : Asked → OpenMessage → Type 0
 TableElsewhere asked message =
-    asked .block ≡ true → message .moved ≡ false → message .block ≢ message .home
+    asked .block ≡ true → message .moved ≡ false → message .block ≢ message .table
 
 module _ (asked : Asked) (state time : ℕ) (message : OpenMessage) (ram : List ℕ) where
   closed-writes : WritesOnly (InClosing asked message) ram (closedRam asked state time message ram)

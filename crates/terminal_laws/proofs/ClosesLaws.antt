@@ -29,19 +29,19 @@ use Rattle.terminal.specs.Event.{
   Event,
   word,
   silence,
-  queueRead,
+  readQueue,
   hostWrite,
-  tableMove,
-  flagsWrite,
+  moveTable,
+  setFlags,
   Outcome,
 }
 use Rattle.terminal.specs.WordStep.{wordDone}
 use Rattle.terminal.specs.SilenceStep.{silenceDone}
 use Rattle.terminal.specs.Machine.{
-  queueReadStep,
+  readQueueStep,
   hostWriteStep,
-  tableMoveStep,
-  flagsWriteStep,
+  moveTableStep,
+  setFlagsStep,
   step,
 }
 use Rattle.terminal_laws.specs.Closes.{
@@ -65,7 +65,7 @@ same-opening message =
       command = refl;
       line = refl;
       block = refl;
-      home = refl;
+      table = refl;
       busy = refl;
       queued = refl;
       opened = refl;
@@ -79,7 +79,7 @@ same-further stage second taken message =
       command = refl;
       line = refl;
       block = refl;
-      home = refl;
+      table = refl;
       busy = refl;
       queued = refl;
       opened = refl;
@@ -128,24 +128,24 @@ module _ (old : Card) (message : OpenMessage) (is-open : old .core .message ≡ 
 -- the law
 pub message-becomes : (event : Event) (old : Card) (message : OpenMessage)
     → old .core .message ≡ Open message → Becomes old message event
-unfolding step queueReadStep hostWriteStep tableMoveStep flagsWriteStep withTable withFlags
+unfolding step readQueueStep hostWriteStep moveTableStep setFlagsStep withTable withFlags
     withMessage movedMessage
 message-becomes (word heard) old message is-open =
     by-word old message is-open (wordJudged old message heard) heard refl
 message-becomes (silence line time) old message is-open =
     by-a-silence old message is-open (silenceJudged message line) line time refl
-message-becomes queueRead old message is-open = stays is-open (same-opening message)
+message-becomes readQueue old message is-open = stays is-open (same-opening message)
 message-becomes (hostWrite address words) old message is-open =
     stays is-open (same-opening message)
-message-becomes (tableMove table) old message is-open =
+message-becomes (moveTable table) old message is-open =
     stays (ap (λ (there : Message). movedMessage there) is-open)
     (record {
       command = refl;
       line = refl;
       block = refl;
-      home = refl;
+      table = refl;
       busy = refl;
       queued = refl;
       opened = refl;
     })
-message-becomes (flagsWrite flags) old message is-open = stays is-open (same-opening message)
+message-becomes (setFlags flags) old message is-open = stays is-open (same-opening message)

@@ -16,7 +16,7 @@ use Rattle.message.specs.declared.state.Message.the-variants.{Idle, Open}
 use Rattle.terminal.specs.declared.state.Core.{Core}
 use Rattle.bus.specs.declared.word.Word.{Word}
 use Rattle.terminal.specs.State.{Card, card, withStatus, withLast, withSwitches, withMessage}
-use Rattle.terminal.specs.Opening.{openedCore, entryAt, openedAs, opening}
+use Rattle.terminal.specs.Opening.{openedCore, tableWordAt, openedAs, opening}
 use Rattle.terminal.specs.Closing.{closedQueue, closing, faulted, ended}
 use Rattle.message.specs.Fitness.{fitMessage}
 use Rattle.terminal.specs.Fitness.{fitCore}
@@ -55,7 +55,7 @@ fit-going-on message ram old fit-message fit =
       queue = fit .queue;
     }
 
--- a command opens a message: its home is the table block, which is fit
+-- a command opens a message: its table is the table block, which is fit
 pub fit-opening : (word : Word) (old : Card)
     → addressed (old .core .station) (word .value) ≡ true → FitCard old → FitCard (opening word old)
 unfolding opening openedCore withMessage withLast withStatus fitCore
@@ -63,7 +63,7 @@ fit-opening word old to-us fit =
     let core = old .core in
     let message = openedAs word core (old .ram) in
     let fit-message : FitOpen (core .station) message =
-    opened-fits (entryAt word core (old .ram)) word core to-us
+    opened-fits (tableWordAt word core (old .ram)) word core to-us
     (fit-core-parts core (fit .core) .table) in
     record {
       core = fit-with-message (Open message) core (fit-open-whole fit-message) (fit .core);

@@ -11,18 +11,18 @@ use Rattle.terminal.specs.Event.{
   Event,
   word,
   silence,
-  queueRead,
+  readQueue,
   hostWrite,
-  tableMove,
-  flagsWrite,
+  moveTable,
+  setFlags,
 }
 use Rattle.terminal.specs.WordStep.{wordStep}
 use Rattle.terminal.specs.SilenceStep.{silenceStep}
 use Rattle.terminal.specs.Machine.{
-  queueReadStep,
+  readQueueStep,
   hostWriteStep,
-  tableMoveStep,
-  flagsWriteStep,
+  moveTableStep,
+  setFlagsStep,
   step,
   run,
 }
@@ -37,26 +37,26 @@ use Rattle.terminal_laws.proofs.FitSilence.{fit-silence}
 unfoldable pub FitEvent : Event → Type 0
 FitEvent (word heard) = Unit {0}
 FitEvent (silence line time) = Unit {0}
-FitEvent queueRead = Unit {0}
+FitEvent readQueue = Unit {0}
 FitEvent (hostWrite address words) = Unit {0}
-FitEvent (tableMove table) = table .0 < cardBlocks
-FitEvent (flagsWrite flags) = flags ≤ allFlags
+FitEvent (moveTable table) = table .0 < cardBlocks
+FitEvent (setFlags flags) = flags ≤ allFlags
 
 -- no event takes a fit state to an unfit one
 pub fit-stays-fit : (event : Event) (old : Card)
     → FitEvent event → FitCard old → FitCard (step event old .card)
-unfolding FitEvent step wordStep silenceStep queueReadStep hostWriteStep tableMoveStep
-    flagsWriteStep withTable withFlags withMessage
+unfolding FitEvent step wordStep silenceStep readQueueStep hostWriteStep moveTableStep
+    setFlagsStep withTable withFlags withMessage
 fit-stays-fit (word heard) old in-order fit =
     fit-word (old .core .message) heard old (fit-core-parts (old .core) (fit .core) .message) fit
 fit-stays-fit (silence line time) old in-order fit =
     fit-silence (old .core .message) line time old
     (fit-core-parts (old .core) (fit .core) .message) fit
-fit-stays-fit queueRead old in-order fit =
+fit-stays-fit readQueue old in-order fit =
     record { core = fit .core; queue = read-keeps-fit cardBlocks (old .queue) (fit .queue) }
 fit-stays-fit (hostWrite address words) old in-order fit =
     record { core = fit .core; queue = fit .queue }
-fit-stays-fit (tableMove table) old in-order fit =
+fit-stays-fit (moveTable table) old in-order fit =
     let parts = fit-core-parts (old .core) (fit .core) in
     record {
       core = fit-core-whole (record {
@@ -67,7 +67,7 @@ fit-stays-fit (tableMove table) old in-order fit =
       });
       queue = fit .queue;
     }
-fit-stays-fit (flagsWrite flags) old in-order fit =
+fit-stays-fit (setFlags flags) old in-order fit =
     let parts = fit-core-parts (old .core) (fit .core) in
     record {
       core = fit-core-whole (record {

@@ -34,9 +34,9 @@ use Rattle.terminal_laws.proofs.FitParts.{addressed, isLegal, InStage, 
 -- ---- the message that a word opens
 
 -- a table word names one of 256 blocks, and without a block the number is 0
-pub fit-block : (has : Bool) (entry : ℕ) → cond has (blockOf entry) (theBlock 0) .0 < cardBlocks
-fit-block true entry = omega arith
-fit-block false entry = omega arith
+pub fit-block : (has : Bool) (tableWord : ℕ) → cond has (blockOf tableWord) (theBlock 0) .0 < cardBlocks
+fit-block true tableWord = omega arith
+fit-block false tableWord = omega arith
 
 -- skipping exactly for illegal commands
 fit-first-stage : (illegal : Bool) → fitStage (cond illegal Skipping Data) illegal Absent 0 ≡ true
@@ -44,16 +44,16 @@ fit-first-stage true = refl
 fit-first-stage false = refl
 
 -- whatever the table word is
-pub opened-fits : (entry : ℕ) (word : Word) (core : Core)
+pub opened-fits : (tableWord : ℕ) (word : Word) (core : Core)
     → addressed (core .station) (word .value) ≡ true → core .table .0 < cardBlocks
     → FitOpen (core .station)
-    (openedMessage (askedOf (word .value)) entry word core)
+    (openedMessage (askedOf (word .value)) tableWord word core)
 unfolding openedMessage
-opened-fits entry word core to-us table =
+opened-fits tableWord word core to-us table =
     record {
       address = to-us;
-      block = fit-block (askedOf (word .value) .block) entry;
-      home = table;
+      block = fit-block (askedOf (word .value) .block) tableWord;
+      table = table;
       taken = omega arith;
       second = refl;
       stage = fit-first-stage (askedOf (word .value) .illegal);
@@ -72,7 +72,7 @@ module _ (station : ℕ) (message : OpenMessage) (fit : FitOpen station message)
       record {
         address = fit .address;
         block = fit .block;
-        home = fit .home;
+        table = fit .table;
         taken = few;
         second = as-taken;
         stage = reached;

@@ -38,7 +38,7 @@ InStage stage message =
 pub record FitOpen (station : ℕ) (message : OpenMessage) : Type 0 where
   pub address : addressed station (message .command) ≡ true
   pub block : message .block .0 < cardBlocks
-  pub home : message .home .0 < cardBlocks
+  pub table : message .table .0 < cardBlocks
   pub taken : message .taken ≤ asks message .takes
   pub second : fitSecond (message .second) station (message .command)
       (asks message .receive) ≡ true
@@ -53,24 +53,24 @@ fit-open-parts station message fit =
     let asked = asks message in
     let address = addressed station command in
     let block = isBlock cardBlocks (message .block) in
-    let home = isBlock cardBlocks (message .home) in
+    let table = isBlock cardBlocks (message .table) in
     let taken = leb (message .taken) (asked .takes) in
     let second = fitSecond (message .second) station command (asked .receive) in
     let stage =
     fitStage (message .stage) (asked .illegal) (message .second) (message .taken) in
-    let to-second = first-of-both (address && block && home && taken && second) stage fit in
-    let to-taken = first-of-both (address && block && home && taken) second to-second in
-    let to-home = first-of-both (address && block && home) taken to-taken in
-    let to-block = first-of-both (address && block) home to-home in
+    let to-second = first-of-both (address && block && table && taken && second) stage fit in
+    let to-taken = first-of-both (address && block && table && taken) second to-second in
+    let to-table = first-of-both (address && block && table) taken to-taken in
+    let to-block = first-of-both (address && block) table to-table in
     record {
       address = first-of-both address block to-block;
       block = ltb-true (message .block .0) cardBlocks (second-of-both address block to-block);
-      home = ltb-true (message .home .0) cardBlocks (second-of-both (address && block) home to-home);
+      table = ltb-true (message .table .0) cardBlocks (second-of-both (address && block) table to-table);
       taken =
           leb-true (message .taken) (asked .takes)
-          (second-of-both (address && block && home) taken to-taken);
-      second = second-of-both (address && block && home && taken) second to-second;
-      stage = second-of-both (address && block && home && taken && second) stage fit;
+          (second-of-both (address && block && table) taken to-taken);
+      second = second-of-both (address && block && table && taken) second to-second;
+      stage = second-of-both (address && block && table && taken && second) stage fit;
     }
 
 -- .. and put together again
@@ -81,7 +81,7 @@ fit-open-whole {station} {message} parts =
     rw (
       parts .address,
       lt-ltb (message .block .0) cardBlocks (parts .block),
-      lt-ltb (message .home .0) cardBlocks (parts .home),
+      lt-ltb (message .table .0) cardBlocks (parts .table),
       le-leb (message .taken) (asks message .takes) (parts .taken),
       parts .second,
     ) (parts .stage)
@@ -131,10 +131,10 @@ open-parts core message fit is =
 -- its block and its table block are blocks of the card
 pub open-block-fits : (core : Core) (message : OpenMessage)
     → fitCore cardBlocks core ≡ true → core .message ≡ Open message
-    → (message .block .0 < cardBlocks) × (message .home .0 < cardBlocks)
+    → (message .block .0 < cardBlocks) × (message .table .0 < cardBlocks)
 open-block-fits core message fit is =
     let parts = open-parts core message fit is in
-    (parts .block, parts .home)
+    (parts .block, parts .table)
 
 -- ---- the card
 

@@ -17,15 +17,15 @@ use Rattle.message.specs.Message.{movedMessage}
 use Rattle.message.specs.Words.{ownCommand}
 use Rattle.message.proofs.AskedBounds.{cell-in-table}
 use Rattle.terminal.specs.State.{Card, withTable, withFlags, withMessage}
-use Rattle.terminal.specs.Opening.{openedMessage, entryAt, openedAs}
+use Rattle.terminal.specs.Opening.{openedMessage, tableWordAt, openedAs}
 use Rattle.terminal.specs.Event.{
   Event,
   word,
   silence,
-  queueRead,
+  readQueue,
   hostWrite,
-  tableMove,
-  flagsWrite,
+  moveTable,
+  setFlags,
   none,
   opens,
   quietly,
@@ -33,10 +33,10 @@ use Rattle.terminal.specs.Event.{
 use Rattle.terminal.specs.WordStep.{wordMet, wordStep}
 use Rattle.terminal.specs.SilenceStep.{silenceStep}
 use Rattle.terminal.specs.Machine.{
-  queueReadStep,
+  readQueueStep,
   hostWriteStep,
-  tableMoveStep,
-  flagsWriteStep,
+  moveTableStep,
+  setFlagsStep,
   step,
   run,
 }
@@ -84,15 +84,15 @@ word-stays (Open message) heard old idle is nothing = absurd (clash (cc))
 -- with nothing open, what opens nothing leaves nothing open
 idle-stays : (event : Event) (old : Card) → old .core .message ≡ Idle
     → step event old .opened ≡ none → step event old .card .core .message ≡ Idle
-unfolding step wordStep silenceStep queueReadStep hostWriteStep tableMoveStep flagsWriteStep
+unfolding step wordStep silenceStep readQueueStep hostWriteStep moveTableStep setFlagsStep
     withTable withFlags withMessage movedMessage
 idle-stays (word heard) old idle nothing =
     word-stays (old .core .message) heard old idle idle nothing
 idle-stays (silence line time) old idle nothing = rw idle
-idle-stays queueRead old idle nothing = idle
+idle-stays readQueue old idle nothing = idle
 idle-stays (hostWrite address words) old idle nothing = idle
-idle-stays (tableMove table) old idle nothing = rw idle
-idle-stays (flagsWrite flags) old idle nothing = idle
+idle-stays (moveTable table) old idle nothing = rw idle
+idle-stays (setFlags flags) old idle nothing = idle
 
 pub rest-stays : (event : Event) (old : Card)
     → FitEvent event → step event old .opened ≡ none → AtRest old → AtRest (step event old .card)
@@ -127,6 +127,6 @@ module _ (old : Card) (sound : WholeAndFit old) where
   opened-block-in-memory heard =
       omega (
         arith,
-        fit-block (askedOf (heard .value) .block) (entryAt heard (old .core) (old .ram)),
+        fit-block (askedOf (heard .value) .block) (tableWordAt heard (old .core) (old .ram)),
         sound .whole-memory,
       )

@@ -47,20 +47,20 @@ use Rattle.terminal.specs.Event.{
   Event,
   word,
   silence,
-  queueRead,
+  readQueue,
   hostWrite,
-  tableMove,
-  flagsWrite,
+  moveTable,
+  setFlags,
   opens,
   quietly,
 }
 use Rattle.terminal.specs.WordStep.{wordDone, wordMet, wordStep}
 use Rattle.terminal.specs.SilenceStep.{silenceDone, silenceMet, silenceStep}
 use Rattle.terminal.specs.Machine.{
-  queueReadStep,
+  readQueueStep,
   hostWriteStep,
-  tableMoveStep,
-  flagsWriteStep,
+  moveTableStep,
+  setFlagsStep,
   step,
 }
 use Rattle.terminal_laws.specs.Closes.{
@@ -119,7 +119,7 @@ module _ {Written : ℕ → Type 0} where
       → (asked .block ≡ true → (cell : Cell) (address : ℕ) → 58 ≤ cell .0 → cell .0 ≤ 61
       → address ≡ wordAddress (message .block) cell → Written address)
       → (asked .block ≡ true → message .moved ≡ false → (address : ℕ)
-      → address ≡ wordAddress (message .home) (asked .cell) → Written address)
+      → address ≡ wordAddress (message .table) (asked .cell) → Written address)
       → WritesOnly Written ram (closedRam asked state time message ram)
   unfolding closedRam
   written-closing asked state time message ram = go (asked .block) (message .moved)
@@ -143,10 +143,10 @@ module _ {Written : ℕ → Type 0} where
           → (has ≡ true → (cell : Cell) (address : ℕ) → 58 ≤ cell .0 → cell .0 ≤ 61
           → address ≡ wordAddress block cell → Written address)
           → (has ≡ true → moved ≡ false → (address : ℕ)
-          → address ≡ wordAddress (message .home) (asked .cell) → Written address)
+          → address ≡ wordAddress (message .table) (asked .cell) → Written address)
           → WritesOnly Written ram
           (cond has
-          (linked moved block (message .home) (asked .cell)
+          (linked moved block (message .table) (asked .cell)
           (withService ram block state time ticks))
           ram)
       go false moved may may-link = nothing-written ram
@@ -154,7 +154,7 @@ module _ {Written : ℕ → Type 0} where
       go true false may may-link =
           written-by
           (keeps-then (service (may refl))
-          (keeps-to-more (may-link refl refl) (link-keeps block (message .home) (asked .cell))))
+          (keeps-to-more (may-link refl refl) (link-keeps block (message .table) (asked .cell))))
           ram
 
 -- ---- one event
@@ -244,13 +244,13 @@ silence-writes line time old = go (old .core .message) refl
 -- the law
 pub step-writes-only : (event : Event) (old : Card)
     → WritesOnly (MayWrite old event) (old .ram) (step event old .card .ram)
-unfolding step queueReadStep hostWriteStep tableMoveStep flagsWriteStep
+unfolding step readQueueStep hostWriteStep moveTableStep setFlagsStep
 step-writes-only (word heard) old = word-writes heard old
 step-writes-only (silence line time) old = silence-writes line time old
-step-writes-only queueRead old = nothing-written (old .ram)
+step-writes-only readQueue old = nothing-written (old .ram)
 step-writes-only (hostWrite start words) old =
     written-by
     (keeps-to-more (λ address at. host-cell (at .0) (at .1)) (words-keep start words))
     (old .ram)
-step-writes-only (tableMove table) old = nothing-written (old .ram)
-step-writes-only (flagsWrite flags) old = nothing-written (old .ram)
+step-writes-only (moveTable table) old = nothing-written (old .ram)
+step-writes-only (setFlags flags) old = nothing-written (old .ram)

@@ -26,7 +26,7 @@ linkOf message old = cellAt (old .ram) (message .block) (theCell 63)
 
 -- what stands in its table cell
 abbrev pub tableWordOf : OpenMessage → Card → ℕ
-tableWordOf message old = cellAt (old .ram) (message .home) (asks message .cell)
+tableWordOf message old = cellAt (old .ram) (message .table) (asks message .cell)
 
 -- what is asked: the event closes a message that has a block, the host has not set the table block
 -- since its opening, and memory has the table cell
@@ -42,7 +42,7 @@ pub record OpensBy (message : OpenMessage) (heard : Word) (old : Card) : Type 0 
   pub opens : step (word heard) old .opened ≢ none
   pub has-block : askedOf (heard .value) .block ≡ true
   pub same-cell : askedOf (heard .value) .cell ≡ asks message .cell
-  pub same-table : old .core .table ≡ message .home
+  pub same-table : old .core .table ≡ message .table
 
 -- none of these events may write the address
 unfoldable pub Untouched : ℕ → List Event → Card → Type 0
@@ -57,5 +57,5 @@ pub record OpensNext (message : OpenMessage) (between : List Event) (heard : Wor
   pub opens-by : OpensBy message heard (run between old)
 
 -- a message is open in the block that a table word names
-pub data OpenIn (entry : ℕ) : Message → Type 0 where
-  open-in : {message : OpenMessage} → message .block ≡ blockOf entry → OpenIn entry (Open message)
+pub data OpenIn (tableWord : ℕ) : Message → Type 0 where
+  open-in : {message : OpenMessage} → message .block ≡ blockOf tableWord → OpenIn tableWord (Open message)

@@ -48,7 +48,7 @@ pub record SameOpening (message later : OpenMessage) : Type 0 where
   pub command : later .command ≡ message .command
   pub line : later .line ≡ message .line
   pub block : later .block ≡ message .block
-  pub home : later .home ≡ message .home
+  pub table : later .table ≡ message .table
   pub busy : later .busy ≡ message .busy
   pub queued : later .queued ≡ message .queued
   pub opened : later .opened ≡ message .opened

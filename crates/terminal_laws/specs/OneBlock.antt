@@ -31,7 +31,7 @@ pub record Kept (Spent : Block → Type 0) (address : ℕ) : Type 0 where
   pub service-cell : (block : Block) (cell : Cell) → Spent block → 58 ≤ cell .0 → cell .0 ≤ 61
       → address ≢ wordAddress block cell
 
--- queues are the same, entry for entry: none is excepted
+-- queues are the same, tableWord for tableWord: none is excepted
 pub record SameQueue (here there : Queue) : Type 0 where
   pub entries : here ≡ there
 
@@ -96,12 +96,12 @@ pub data Calm : List Event → Card → Type 0 where
 
 -- at its end both messages have closed; or the next event is a word that is not joined and opens a
 -- message, in the first run at least
-pub data Settled (here there : Card) : List Event → Type 0 where
+pub data BothOver (here there : Card) : List Event → Type 0 where
   closed : {after : List Event}
-      → here .core .message ≡ Idle → there .core .message ≡ Idle → Settled here there after
+      → here .core .message ≡ Idle → there .core .message ≡ Idle → BothOver here there after
   superseded : {after : List Event} (command : Word)
       → step (word command) here .opened ≢ none → command .joined ≡ false
-      → Settled here there (word command ∷ after)
+      → BothOver here there (word command ∷ after)
 
 -- from there on no spent block is the table or a source of words sent: asked of the first run alone
 unfoldable pub Spared : (Block → Type 0) → List Event → Card → Type 0
@@ -124,6 +124,6 @@ pub record BrokenMessage (card : Card) (command : Word) (one two after : List Ev
   pub opens : step (word command) card .opened ≢ none
   pub calm-one : Calm one (step (word command) card .card)
   pub calm-two : Calm two (step (word command) card .card)
-  pub settled : Settled (run (word command ∷ one) card) (run (word command ∷ two) card) after
+  pub both-over : BothOver (run (word command ∷ one) card) (run (word command ∷ two) card) after
   pub spared : Spared (ThatBlock (step (word command) card .card .core .message)) after
       (run (word command ∷ one) card)

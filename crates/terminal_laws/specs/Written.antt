@@ -18,16 +18,16 @@ use Rattle.terminal.specs.Event.{
   Event,
   word,
   silence,
-  queueRead,
+  readQueue,
   hostWrite,
-  tableMove,
-  flagsWrite,
+  moveTable,
+  setFlags,
 }
 use Rattle.terminal_laws.specs.Closes.{OpenWithBlock, wordJudged, Closes}
 
 -- the address of a message's table cell: in the table block of its opening
 abbrev pub tableAddress : OpenMessage → ℕ
-tableAddress message = wordAddress (message .home) (asks message .cell)
+tableAddress message = wordAddress (message .table) (asks message .cell)
 
 -- rule 8 stores the word in the next cell, which is a data cell; under busy data nothing is stored
 pub record Stores (old : Card) (message : OpenMessage) (heard : Word) : Type 0 where
@@ -74,9 +74,9 @@ pub data OnBus : Event → Type 0 where
 
 -- the host's actions that are no write of words
 pub data OtherAction : Event → Type 0 where
-  a-queue-read : OtherAction queueRead
-  a-table-move : {table : Block} → OtherAction (tableMove table)
-  a-flags-write : {flags : ℕ} → OtherAction (flagsWrite flags)
+  a-queue-read : OtherAction readQueue
+  a-table-move : {table : Block} → OtherAction (moveTable table)
+  a-flags-write : {flags : ℕ} → OtherAction (setFlags flags)
 
 -- a block's other cells, 32 to 57, 62 and the link: neither data nor service cells
 pub record OtherCell (cell : Cell) : Type 0 where

@@ -14,7 +14,7 @@ use Rattle.card.specs.Memory.{cardBlocks, cardWords}
 use Rattle.card.specs.Host.{mostWritten, isWrite}
 use Rattle.terminal.specs.State.{Card}
 use Rattle.terminal.specs.Event.{Event, Shown, shown}
-use Rattle.terminal.specs.Machine.{step, queueReadStep, tableMoveStep, flagsWriteStep}
+use Rattle.terminal.specs.Machine.{step, readQueueStep, moveTableStep, setFlagsStep}
 use Rattle.terminal_laws.specs.AtRest.{WholeAndFit}
 use Rattle.actions.specs.Actions.{
   After,
@@ -97,7 +97,7 @@ module _ (bytes : List ℕ) (place next : ℕ) (old : Card) where
   action-taken : (field : Field) → InOrder place next field
       → (isSetup field ≡ false → WholeAndFit old)
       → actionOf bytes field old ≡ unrefused (happened (happeningOf (valuedAt bytes field)) old)
-  unfolding actionOf happened happeningOf valuedAt step queueReadStep tableMoveStep flagsWriteStep
+  unfolding actionOf happened happeningOf valuedAt step readQueueStep moveTableStep setFlagsStep
       setupAction wordAction silenceAction hostWriteAction readQueueAction moveTableAction
       setFlagsAction withoutMemory terminalAtSetup
   action-taken (Setup station table flags) in-order sound =

@@ -6,8 +6,8 @@ use Rattle.rules.proofs.Determined.{Determined, DeterminedAs, same}
 use Rattle.lines.specs.Written.{Put, put}
 use Rattle.tray.specs.AsCoded.Window.{Passed}
 use Rattle.tray.specs.AsCoded.Held.{passedOf}
-use Rattle.tray.proofs.run.Run.at_start.Kinds as at-start-kinds
-use Rattle.tray.proofs.run.Run.at_start.Reads as at-start-reads
+use Rattle.tray.proofs.run.Tray.at_start.Kinds as at-start-kinds
+use Rattle.tray.proofs.run.Tray.at_start.Reads as at-start-reads
 use Rattle.tray.proofs.window.run_window.Kinds as run-window-kinds
 use Rattle.tray.proofs.window.run_window.Reads as run-window-reads
 use Rattle.tray.proofs.rest.keep_rest.Kinds as keep-rest-kinds

@@ -31,10 +31,10 @@ use Rattle.terminal.specs.WordStep.{wordStep}
 use Rattle.terminal.specs.SilenceStep.{silenceStep}
 use Rattle.terminal.specs.Machine.{
   step,
-  queueReadStep,
+  readQueueStep,
   hostWriteStep,
-  tableMoveStep,
-  flagsWriteStep,
+  moveTableStep,
+  setFlagsStep,
 }
 use Rattle.bus.specs.Word.{wordOf}
 use Rattle.terminal.proofs.SilentLaws.{words-are-silent}
@@ -43,11 +43,11 @@ use Rattle.recording.specs.declared.field.Field.the-variants as field
 use Rattle.recording.specs.Bytes.{wordsAt, withWords}
 use Rattle.recording.specs.Value.{valuedAt}
 use Rattle.recording.proofs.WordsLaws.{front-of-copy}
-use Rattle.tray.specs.declared.field.Happened.{Happened}
+use Rattle.tray.specs.declared.field.Shown.{Shown as HeldShown}
 use Rattle.tray.specs.Happening.{happeningOf, happened}
 use Rattle.tray.specs.AsCoded.Held.{WordsIn, WordsThere}
 
-abbrev quiet : Core → Ring → Happened
+abbrev quiet : Core → Ring → HeldShown
 quiet core ring =
     record { held = record { core = core; ring = ring }; answer = replied Silent }
 
@@ -58,7 +58,7 @@ module _ (told : Field) (window places ram : List ℕ) (held : Held) where
   abbrev comes : Shown
   comes = happened (happeningOf (valuedAt window told)) before
 
-  pub setup-comes : (station table flags : ℕ) (core : Core) (ring : Ring) (left : Happened)
+  pub setup-comes : (station table flags : ℕ) (core : Core) (ring : Ring) (left : HeldShown)
       (places′ : List ℕ)
       → told ≡ field.Setup station table flags
       → queue places′ ring ≡ emptyQueue
@@ -90,10 +90,10 @@ module _ (told : Field) (window places ram : List ℕ) (held : Held) where
       → told ≡ field.ReadQueue
       → taken ≡ readFrom (queue places (held .ring))
       → shown (card (held .core) (queue places (taken .ring)) ram) (queueWord (taken .word)) ≡ comes
-  unfolding happened happeningOf valuedAt step queueReadStep
+  unfolding happened happeningOf valuedAt step readQueueStep
   queue-read-comes taken is is-taken = rw (is, is-taken)
 
-  pub host-write-comes : (address first count : ℕ) (left : Happened) (ram′ : List ℕ)
+  pub host-write-comes : (address first count : ℕ) (left : HeldShown) (ram′ : List ℕ)
       → told ≡ field.HostWrite address first count
       → ram′ ≡ sets ram address (wordsAt window first count)
       → left ≡ quiet (held .core) (held .ring)
@@ -101,22 +101,22 @@ module _ (told : Field) (window places ram : List ℕ) (held : Held) where
   unfolding happened happeningOf valuedAt step hostWriteStep
   host-write-comes address first count left ram′ is is-ram is-left = rw (is, is-left, is-ram)
 
-  pub table-comes : (table : ℕ) (core : Core) (left : Happened)
+  pub table-comes : (table : ℕ) (core : Core) (left : HeldShown)
       → told ≡ field.MoveTable table
       → core
       ≡ withTable (theBlock table)
       (withMessage (movedMessage (held .core .message)) (held .core))
       → left ≡ quiet core (held .ring)
       → shown (cardOf (left .held) places ram) (left .answer) ≡ comes
-  unfolding happened happeningOf valuedAt step tableMoveStep
+  unfolding happened happeningOf valuedAt step moveTableStep
   table-comes table core left is is-core is-left = rw (is, is-left, is-core)
 
-  pub flags-come : (flags : ℕ) (core : Core) (left : Happened)
+  pub flags-come : (flags : ℕ) (core : Core) (left : HeldShown)
       → told ≡ field.SetFlags flags
       → core ≡ withFlags flags (held .core)
       → left ≡ quiet core (held .ring)
       → shown (cardOf (left .held) places ram) (left .answer) ≡ comes
-  unfolding happened happeningOf valuedAt step flagsWriteStep
+  unfolding happened happeningOf valuedAt step setFlagsStep
   flags-come flags core left is is-core is-left = rw (is, is-left, is-core)
 
 pub ruleset happenings = (

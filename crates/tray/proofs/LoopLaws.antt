@@ -7,7 +7,7 @@ use Prim.Native.Nat.{ℕ, zero, suc, _-_, _≤_, _<_}
 use native.Mathlib.Omega.{arith}
 use lib.ListN.{length}
 use borrow.Author.Tests.{not-true, not-false}
-use Rattle.tray.specs.declared.window.Ran.{Ran}
+use Rattle.tray.specs.declared.window.Passed.{Passed as HeldPassed}
 use Rattle.tray.specs.declared.window.Stop.{Stop}
 use Rattle.tray.specs.declared.window.Stop.the-variants.{Going, Hungry, Full, Over}
 use Rattle.tray.specs.AsCoded.Window.{Passed, isGoing, turn, turns}
@@ -45,7 +45,7 @@ module _ (window : List ℕ) (last : Bool) (start : Passed) (most : ℕ) where
     leads-done (suc left) so-far none = absurd (omega (arith, none))
 
   -- a row of data words, and a turn more
-  module _ (old next : Ran) (places ram out ram′ : List ℕ) (room left left′ : ℕ) where
+  module _ (old next : HeldPassed) (places ram out ram′ : List ℕ) (room left left′ : ℕ) where
     pub leads-on : (going : Bool) (new : Passed)
         → Leads window last start most (passedOf old places ram out) left
         → 0 < left → going ≡ isGoing (old .stop) → not going ≡ false

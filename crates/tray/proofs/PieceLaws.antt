@@ -8,7 +8,7 @@ use lib.ListN.{drop}
 use Rattle.rules.proofs.Clash.{clash}
 use Rattle.tray.specs.Run.{Tray, trayAtStart, Whole, whole, withLine, wholeFrom, printed}
 use Rattle.tray.specs.AsCoded.Window.{Passed, windowRun}
-use Rattle.tray.specs.AsCoded.Pieces.{linesOf, Streamed, begins, reads, ends, calls, Finished}
+use Rattle.tray.specs.AsCoded.Pieces.{linesPut, Streamed, begins, reads, ends, calls, Finished}
 use Rattle.tray.proofs.WindowLaws.{call-goes-on, call-is-over}
 
 -- what was printed of the pieces so far, and what is made of what is left, is what is made of the
@@ -37,7 +37,7 @@ streamed-prints start _ _ _ _ _
     streamed-prints start ended input text old window so-far behind none
     ∙ ap (withLine text) (call-goes-on window behind ended none old out other)
     ∙ ap (λ (all : List ℕ). whole all (after .tray))
-    (sym (append-assoc text (linesOf call) (after .text)))
+    (sym (append-assoc text (linesPut call) (after .text)))
 
 -- a run that is finished has printed and left what the definition makes of its input
 pub finished-prints : (start : Tray) (input text : List ℕ) (new : Tray)
@@ -45,7 +45,7 @@ pub finished-prints : (start : Tray) (input text : List ℕ) (new : Tray)
 finished-prints start input text new done =
     let call : Passed = windowRun (done .old) (done .window) (done .ended) (done .out) in
     ap (λ (all : List ℕ). whole all new) (done .is-text)
-    ∙ ap (whole (done .before ++ linesOf call)) (done .is-new)
+    ∙ ap (whole (done .before ++ linesPut call)) (done .is-new)
     ∙ ap (withLine (done .before))
     (sym (call-is-over (done .window) [] (done .ended) (λ _. refl) (done .old) (done .out)
     (done .is-over)))

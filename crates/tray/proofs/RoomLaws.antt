@@ -14,10 +14,10 @@ use Rattle.rules.proofs.Clash.{clash}
 use Rattle.queue.specs.Queue.{oldestWord}
 use Rattle.terminal.specs.Machine.{
   step,
-  queueReadStep,
+  readQueueStep,
   hostWriteStep,
-  tableMoveStep,
-  flagsWriteStep,
+  moveTableStep,
+  setFlagsStep,
 }
 use Rattle.recording.specs.declared.tag.Tag.{Tag}
 use Rattle.recording.specs.declared.tag.Tag.the-variants.{
@@ -57,7 +57,7 @@ use Rattle.tray.specs.AsCoded.Window.{
   windowRun,
   wholeRoom,
 }
-use Rattle.tray.specs.AsCoded.Pieces.{linesOf}
+use Rattle.tray.specs.AsCoded.Pieces.{linesPut}
 use Rattle.tray.proofs.PrintedLaws.{taking-line-fits, last-line-fits}
 use Rattle.tray.proofs.WindowLaws.{call-is-over}
 use Rattle.tray.proofs.EndLaws.{
@@ -76,8 +76,8 @@ use Rattle.tray.proofs.EndLaws.{
 module _ (bytes : List ℕ) (value size : ℕ) (old : Tray) where
   line-by-size : (tag : Tag) → lengthFits tag size ≡ true
       → length (takingLine bytes (fieldAt bytes tag value size) old) ≤ 21 * (3 + size)
-  unfolding lengthFits fieldAt takingLine happeningOf valuedAt happened step queueReadStep
-      hostWriteStep tableMoveStep flagsWriteStep
+  unfolding lengthFits fieldAt takingLine happeningOf valuedAt happened step readQueueStep
+      hostWriteStep moveTableStep setFlagsStep
   line-by-size Setup fits = omega arith
   line-by-size Word fits =
       omega (
@@ -210,7 +210,7 @@ module _ (window first : List ℕ) (room : wholeRoom (length window) ≤ length 
         go Over goes waits full = refl
 
     -- what it prints and leaves is what the run makes of the whole recording
-    made : wholeFrom old window ≡ whole (linesOf call) (call .tray)
+    made : wholeFrom old window ≡ whole (linesPut call) (call .tray)
     made =
         ap (wholeFrom old) (sym (append-nil window))
         ∙ call-is-over window [] true (λ _. refl) old first over-at-once

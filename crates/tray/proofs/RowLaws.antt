@@ -18,7 +18,7 @@ use Rattle.recording.specs.declared.words.Found.{Found}
 use Rattle.recording.specs.declared.words.Found.the-variants.{Value, Nothing}
 use Rattle.recording.specs.AsCoded.Found.{wordFound}
 use Rattle.tray.specs.declared.row.Reach.{Reach}
-use Rattle.tray.specs.declared.window.Ran.{Ran}
+use Rattle.tray.specs.declared.window.Passed.{Passed as HeldPassed}
 use Rattle.tray.specs.AsCoded.Row.{
   marksOn,
   wordsFound,
@@ -26,7 +26,7 @@ use Rattle.tray.specs.AsCoded.Row.{
   stored,
   behind,
   behindRow,
-  ranAfter,
+  passedAfter,
 }
 use Rattle.tray.proofs.WordTurns.{found-next}
 
@@ -130,16 +130,16 @@ pub ruleset row-storing = (row-at-start, row-goes-on, row-stops, row-less, row-d
 
 -- ---- the run behind a row
 
-pub row-after : (old : Ran) (message : OpenMessage) (end : Reach) (core : Core)
+pub row-after : (old : HeldPassed) (message : OpenMessage) (end : Reach) (core : Core)
     (words fields offset : ℕ)
-    → core ≡ withTaken (end .row .taken) message (old .run .held .core)
-    → fields ≡ (old .run .fields + words) % 2 ^ 64
-    → offset ≡ (old .run .offset + 10 * words) % 2 ^ 64
+    → core ≡ withTaken (end .row .taken) message (old .tray .held .core)
+    → fields ≡ (old .tray .fields + words) % 2 ^ 64
+    → offset ≡ (old .tray .offset + 10 * words) % 2 ^ 64
     → record {
-      run =
+      tray =
           record {
-            held = record { core = core; ring = old .run .held .ring };
-            seen = old .run .seen;
+            held = record { core = core; ring = old .tray .held .ring };
+            seen = old .tray .seen;
             fields = fields;
             offset = offset;
           };
@@ -147,7 +147,7 @@ pub row-after : (old : Ran) (message : OpenMessage) (end : Reach) (core : Core)
       put = old .put;
       stop = old .stop;
     }
-    ≡ ranAfter old message end words
-unfolding ranAfter
+    ≡ passedAfter old message end words
+unfolding passedAfter
 row-after old message end core words fields offset is-core is-fields is-offset =
     rw (is-core, is-fields, is-offset)

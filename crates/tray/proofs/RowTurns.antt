@@ -24,7 +24,7 @@ use Rattle.terminal_laws.proofs.RowLaws.{row-is-words}
 use Rattle.recording.specs.declared.seen.Seen.{Seen}
 use Rattle.lines.specs.Written.{lineRoom, mostWords}
 use Rattle.tray.specs.declared.row.Reach.{Reach}
-use Rattle.tray.specs.declared.window.Ran.{Ran}
+use Rattle.tray.specs.declared.window.Passed.{Passed as HeldPassed}
 use Rattle.tray.specs.declared.window.Stop.the-variants.{Going}
 use Rattle.tray.specs.Run.{counted}
 use Rattle.tray.specs.AsCoded.Window.{turns}
@@ -35,7 +35,7 @@ use Rattle.tray.specs.AsCoded.Row.{
   stored,
   behindRow,
   mayTakeRow,
-  ranAfter,
+  passedAfter,
   RowTaken,
 }
 use Rattle.tray.proofs.WordTurns.{found-are-data, found-at-most, words-are-turns, among}
@@ -63,15 +63,15 @@ able-tells seen room most row is =
       more = ltb-true (row .taken) (row .wanted) (second-of-both (setup && enough && many) more is);
     }
 
-module _ (old : Ran) (message : OpenMessage) (window ram ram′ : List ℕ) (room most : ℕ)
+module _ (old : HeldPassed) (message : OpenMessage) (window ram ram′ : List ℕ) (room most : ℕ)
     (row : Row) (end : Reach) (is-row : row ≡ rowOf message)
-    (able : not (mayTakeRow (old .run .seen) room most row) ≡ false)
+    (able : not (mayTakeRow (old .tray .seen) room most row) ≡ false)
     (is-end : stored end ram′
     ≡ behindRow window (message .line) (stored (record { row = row; at = old .at }) ram)) where
-  tells : Able (old .run .seen) room most (rowOf message)
+  tells : Able (old .tray .seen) room most (rowOf message)
   tells =
-      able-tells (old .run .seen) room most (rowOf message)
-      (rw is-row at (not-false (mayTakeRow (old .run .seen) room most row) able))
+      able-tells (old .tray .seen) room most (rowOf message)
+      (rw is-row at (not-false (mayTakeRow (old .tray .seen) room most row) able))
 
   abbrev fuel : ℕ
   fuel = wants message - message .taken
@@ -98,25 +98,25 @@ module _ (old : Ran) (message : OpenMessage) (window ram ram′ : List ℕ) (roo
   pub words-fit : end .row .taken - row .taken ≤ most
   words-fit = omega (arith, longer, same-row, few, wants-at-most message, tells .many)
 
-  module _ (left words : ℕ) (new : Ran) (is-open : old .run .held .core .message ≡ Open message)
+  module _ (left words : ℕ) (new : HeldPassed) (is-open : old .tray .held .core .message ≡ Open message)
       (is-words : words ≡ end .row .taken - row .taken)
-      (is-new : new ≡ ranAfter old message end words) (is-left : left ≡ most - words)
-      (small : old .run .fields < 2 ^ 64) (near : old .run .offset < 2 ^ 64) where
+      (is-new : new ≡ passedAfter old message end words) (is-left : left ≡ most - words)
+      (small : old .tray .fields < 2 ^ 64) (near : old .tray .offset < 2 ^ 64) where
     as-many : words ≡ length found
     as-many = omega (arith, is-words, longer, same-row)
 
-    same-stop : ranAfter old message end words .stop ≡ old .stop
-    unfolding ranAfter
+    same-stop : passedAfter old message end words .stop ≡ old .stop
+    unfolding passedAfter
     same-stop = refl
 
-    put-stays : ranAfter old message end words .put ≡ old .put
-    unfolding ranAfter
+    put-stays : passedAfter old message end words .put ≡ old .put
+    unfolding passedAfter
     put-stays = refl
 
     module _ (last : Bool) (places out : List ℕ) (is-room : room ≡ length out - old .put)
         (is-going : old .stop ≡ Going) where
       abbrev before : Card
-      before = cardOf (old .run .held) places ram
+      before = cardOf (old .tray .held) places ram
 
       as-row : run (map word found) before ≡ rowStored found message before
       as-row =
@@ -127,27 +127,27 @@ module _ (old : Ran) (message : OpenMessage) (window ram ram′ : List ℕ) (roo
 
       row-leads : turns left window last (passedOf new places ram′ out)
           ≡ turns most window last (passedOf old places ram out)
-      unfolding ranAfter
+      unfolding passedAfter
       row-leads =
           let all : length found + left ≡ most =
           omega (arith, is-left, as-many, few, wants-at-most message, tells .many) in
-          ap (λ (any : Ran). turns left window last (passedOf any places ram′ out)) is-new
+          ap (λ (any : HeldPassed). turns left window last (passedOf any places ram′ out)) is-new
           ∙ ap (λ (any : Stored). turns left window last
-          (passedOf (ranAfter old message (any .reach) words) places (any .ram) out)) is-stored
+          (passedOf (passedAfter old message (any .reach) words) places (any .ram) out)) is-stored
           ∙ ap (λ (any : ℕ). turns left window last
-          (among window out last (message .line) (old .run .seen) (old .put) (old .stop)
+          (among window out last (message .line) (old .tray .seen) (old .put) (old .stop)
           (tells .after-setup) is-going (rw is-room at (tells .enough))
           (old .at + 10 * length found) (rowStored found message before)
-          (counted (old .run .fields + any)) (counted (old .run .offset + 10 * any)))) as-many
+          (counted (old .tray .fields + any)) (counted (old .tray .offset + 10 * any)))) as-many
           ∙ ap (λ (any : Card). turns left window last
-          (among window out last (message .line) (old .run .seen) (old .put) (old .stop)
+          (among window out last (message .line) (old .tray .seen) (old .put) (old .stop)
           (tells .after-setup) is-going (rw is-room at (tells .enough))
           (old .at + 10 * length found) any
-          (counted (old .run .fields + length found))
-          (counted (old .run .offset + 10 * length found)))) (sym as-row)
-          ∙ words-are-turns window out last (message .line) (old .run .seen) (old .put) (old .stop)
+          (counted (old .tray .fields + length found))
+          (counted (old .tray .offset + 10 * length found)))) (sym as-row)
+          ∙ words-are-turns window out last (message .line) (old .tray .seen) (old .put) (old .stop)
           (tells .after-setup) is-going (rw is-room at (tells .enough))
-          fuel left (old .at) before (old .run .fields) (old .run .offset) small near
+          fuel left (old .at) before (old .tray .fields) (old .tray .offset) small near
           ∙ ap (λ (any : ℕ). turns any window last (passedOf old places ram out)) all
 
     pub row-taken : RowTaken window room most old ram left new ram′
@@ -157,15 +157,15 @@ module _ (old : Ran) (message : OpenMessage) (window ram ram′ : List ℕ) (roo
           some-left =
               λ _.
               omega (arith, is-left, as-many, few, wants-at-most message, tells .many);
-          going = ap (λ (any : Ran). any .stop) is-new ∙ same-stop;
-          same-put = ap (λ (any : Ran). any .put) is-new ∙ put-stays;
+          going = ap (λ (any : HeldPassed). any .stop) is-new ∙ same-stop;
+          same-put = ap (λ (any : HeldPassed). any .put) is-new ∙ put-stays;
           leads = row-leads;
         }
 
 pub ruleset rows = (words-grow, words-fit)
 
 -- what the record tells, for `search` and `omega`
-module _ {window ram ram′ : List ℕ} {room most left : ℕ} {old new : Ran}
+module _ {window ram ram′ : List ℕ} {room most left : ℕ} {old new : HeldPassed}
     (taken : RowTaken window room most old ram left new ram′) where
   pub turn-left : 0 < most → 1 ≤ left
   turn-left some = omega (arith, taken .some-left some)

@@ -12,10 +12,10 @@ use Rattle.terminal.specs.State.{Card}
 use Rattle.terminal.specs.Event.{
   word,
   silence,
-  queueRead,
+  readQueue,
   hostWrite,
-  tableMove,
-  flagsWrite,
+  moveTable,
+  setFlags,
 }
 use Rattle.terminal_laws.specs.AtRest.{WholeAndFit}
 use Rattle.terminal_laws.proofs.FitLaws.{FitEvent}
@@ -69,13 +69,13 @@ happening-is-sound bytes (Word marks value time) place next old in-order long so
 happening-is-sound bytes (Silence line time) place next old in-order long sound =
     whole-and-fit-stays (silence _ time) old tt (sound refl)
 happening-is-sound bytes ReadQueue place next old in-order long sound =
-    whole-and-fit-stays queueRead old tt (sound refl)
+    whole-and-fit-stays readQueue old tt (sound refl)
 happening-is-sound bytes (HostWrite address first count) place next old in-order long sound =
     whole-and-fit-stays (hostWrite address _) old tt (sound refl)
 happening-is-sound bytes (MoveTable table) place next old in-order long sound =
-    whole-and-fit-stays (tableMove (theBlock table)) old in-order (sound refl)
+    whole-and-fit-stays (moveTable (theBlock table)) old in-order (sound refl)
 happening-is-sound bytes (SetFlags flags) place next old in-order long sound =
-    whole-and-fit-stays (flagsWrite flags) old in-order (sound refl)
+    whole-and-fit-stays (setFlags flags) old in-order (sound refl)
 
 -- once a setup has been read
 pub set-up-is-whole-and-fit : {old : Tray} → SoundTray old → old .seen .setup ≡ true

@@ -20,8 +20,8 @@ use Rattle.recording.proofs.TakenLaws.{taken-within}
 use Rattle.recording.proofs.InOrder.{taken-in-order}
 use Rattle.recording.proofs.TakenWords.{taken-words-there}
 use Rattle.lines.specs.Written.{Put, put, lineRoom, lineWritten}
-use Rattle.tray.specs.declared.field.Happened.{Happened}
-use Rattle.tray.specs.declared.window.Ran.{Ran}
+use Rattle.tray.specs.declared.field.Shown.{Shown as HeldShown}
+use Rattle.tray.specs.declared.window.Passed.{Passed as HeldPassed}
 use Rattle.tray.specs.declared.window.Stop.{Stop}
 use Rattle.tray.specs.declared.window.Stop.the-variants.{Going, Hungry, Full, Over}
 use Rattle.tray.specs.Happening.{happeningOf, happened}
@@ -40,20 +40,20 @@ use Rattle.tray.specs.AsCoded.Held.{passedOf, WordsThere, WasRead}
 
 -- ---- a field that is taken
 
-module _ (ran : Ran) (places ram out window : List ℕ) (told : Field) (next : ℕ) where
+module _ (ran : HeldPassed) (places ram out window : List ℕ) (told : Field) (next : ℕ) where
   abbrev old : Passed
   old = passedOf ran places ram out
 
-  pub field-taken : (left : Happened) (places′ ram′ out′ : List ℕ) (put′ fields offset : ℕ)
+  pub field-taken : (left : HeldShown) (places′ ram′ out′ : List ℕ) (put′ fields offset : ℕ)
       (seen : Seen)
       → shown (cardOf (left .held) places′ ram′) (left .answer)
-      ≡ happened (happeningOf (valuedAt window told)) (cardOf (ran .run .held) places ram)
+      ≡ happened (happeningOf (valuedAt window told)) (cardOf (ran .tray .held) places ram)
       → put put′ out′ ≡ lineWritten out (ran .put) (answerLine ram′ (left .answer))
-      → seen ≡ seenAfter told (ran .run .seen)
-      → fields ≡ (ran .run .fields + 1) % 2 ^ 64
-      → offset ≡ (ran .run .offset + (next - ran .at)) % 2 ^ 64
+      → seen ≡ seenAfter told (ran .tray .seen)
+      → fields ≡ (ran .tray .fields + 1) % 2 ^ 64
+      → offset ≡ (ran .tray .offset + (next - ran .at)) % 2 ^ 64
       → passedOf (record {
-        run =
+        tray =
             record { held = left .held; seen = seen; fields = fields; offset = offset };
         at = next;
         put = put′;
@@ -100,20 +100,20 @@ pub ruleset was-read = (words-of-read, further-of-read)
 
 -- ---- a turn
 
-module _ (ran : Ran) (places ram out window : List ℕ) (last : Bool) (room : ℕ)
+module _ (ran : HeldPassed) (places ram out window : List ℕ) (last : Bool) (room : ℕ)
     (is-room : room ≡ length out - ran .put) where
   abbrev before : Passed
   before = passedOf ran places ram out
 
-  pub turn-full : (left : Ran) → room < lineRoom
-      → left ≡ record { run = ran .run; at = ran .at; put = ran .put; stop = Full }
+  pub turn-full : (left : HeldPassed) → room < lineRoom
+      → left ≡ record { tray = ran .tray; at = ran .at; put = ran .put; stop = Full }
       → passedOf left places ram out ≡ turn window last before
   unfolding turn
   turn-full left short is-left =
       rw (is-left, lt-ltb (length out - ran .put) lineRoom (rw is-room at short))
 
   module _ (reading : Reading) (enough : lineRoom ≤ room)
-      (is-reading : reading ≡ readAt window (ran .at) (ran .run .seen)) where
+      (is-reading : reading ≡ readAt window (ran .at) (ran .tray .seen)) where
     turn-by : passing reading window last before ≡ turn window last before
     unfolding turn
     turn-by = rw (is-reading, le-ltb (length out - ran .put) lineRoom (rw is-room at enough))
@@ -123,18 +123,18 @@ module _ (ran : Ran) (places ram out window : List ℕ) (last : Bool) (room : �
     unfolding passing
     turn-takes told next new is is-new = rw (← turn-by, is) is-new
 
-    module _ (left : Ran) (put′ : ℕ) (stop : Stop) (out′ : List ℕ)
-        (is-left : left ≡ record { run = ran .run; at = ran .at; put = put′; stop = stop }) where
+    module _ (left : HeldPassed) (put′ : ℕ) (stop : Stop) (out′ : List ℕ)
+        (is-left : left ≡ record { tray = ran .tray; at = ran .at; put = put′; stop = stop }) where
       pub turn-ends : reading ≡ End
           → stopped (put put′ out′) stop
-          ≡ stoppedAt 0 last (ran .run .fields) (ran .run .offset) out (ran .put)
+          ≡ stoppedAt 0 last (ran .tray .fields) (ran .tray .offset) out (ran .put)
           → passedOf left places ram out′ ≡ turn window last before
       unfolding passing
       turn-ends is is-stopped = rw (← turn-by, is, is-left, ← is-stopped)
 
       pub turn-refuses : (number place : ℕ) → reading ≡ Refused number place
           → stopped (put put′ out′) stop
-          ≡ stoppedAt number last (ran .run .fields) (ran .run .offset) out (ran .put)
+          ≡ stoppedAt number last (ran .tray .fields) (ran .tray .offset) out (ran .put)
           → passedOf left places ram out′ ≡ turn window last before
       unfolding passing
       turn-refuses number place is is-stopped = rw (← turn-by, is, is-left, ← is-stopped)

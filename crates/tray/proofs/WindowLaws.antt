@@ -49,7 +49,7 @@ use Rattle.tray.specs.AsCoded.Window.{
   mostTurns,
   windowRun,
 }
-use Rattle.tray.specs.AsCoded.Pieces.{linesOf}
+use Rattle.tray.specs.AsCoded.Pieces.{linesPut}
 use Rattle.tray.proofs.PrintedLaws.{
   taking-line-fits,
   last-line-fits,
@@ -264,12 +264,12 @@ module _ (window behind : List ℕ) where
     -- a call that is not over prints its lines, and the rest is still to be done
     pub call-goes-on : (old : Tray) (out : List ℕ) → windowRun old window last out .stop ≢ Over
         → wholeFrom old (window ++ behind)
-        ≡ withLine (linesOf (windowRun old window last out))
+        ≡ withLine (linesPut (windowRun old window last out))
         (wholeFrom (windowRun old window last out .tray)
         (drop (windowRun old window last out .at) window ++ behind))
     call-goes-on old out other =
         sym (call-same old out)
-        ∙ ap (withLine (linesOf (windowRun old window last out)))
+        ∙ ap (withLine (linesPut (windowRun old window last out)))
         (not-over (windowRun old window last out .stop) (windowRun old window last out .tray)
         (drop (windowRun old window last out .at) window ++ behind) other)
       where
@@ -283,10 +283,10 @@ module _ (window behind : List ℕ) where
     -- a call that is over has printed all there is, and leaves what the run leaves
     pub call-is-over : (old : Tray) (out : List ℕ) → windowRun old window last out .stop ≡ Over
         → wholeFrom old (window ++ behind)
-        ≡ whole (linesOf (windowRun old window last out)) (windowRun old window last out .tray)
+        ≡ whole (linesPut (windowRun old window last out)) (windowRun old window last out .tray)
     call-is-over old out is =
         let call : Passed = windowRun old window last out in
         sym (call-same old out)
-        ∙ ap (λ (stop : Stop). withLine (linesOf call)
+        ∙ ap (λ (stop : Stop). withLine (linesPut call)
         (ahead stop (call .tray) (drop (call .at) window ++ behind))) is
-        ∙ ap (λ (text : List ℕ). whole text (call .tray)) (append-nil (linesOf call))
+        ∙ ap (λ (text : List ℕ). whole text (call .tray)) (append-nil (linesPut call))

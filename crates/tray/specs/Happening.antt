@@ -11,10 +11,10 @@ use Rattle.terminal.specs.Event.{
   Event,
   word,
   silence,
-  queueRead,
+  readQueue,
   hostWrite,
-  tableMove,
-  flagsWrite,
+  moveTable,
+  setFlags,
   replied,
   Shown,
   shown,
@@ -34,10 +34,10 @@ unfoldable pub happeningOf : Valued → Happening
 happeningOf (field.setup station table flags) = setup station table flags
 happeningOf (field.word marks value time) = event (word (wordOf marks value time))
 happeningOf (field.silence line time) = event (silence (eqb line 1) time)
-happeningOf field.readQueue = event queueRead
+happeningOf field.readQueue = event readQueue
 happeningOf (field.hostWrite address words) = event (hostWrite address words)
-happeningOf (field.moveTable table) = event (tableMove (theBlock table))
-happeningOf (field.setFlags flags) = event (flagsWrite flags)
+happeningOf (field.moveTable table) = event (moveTable (theBlock table))
+happeningOf (field.setFlags flags) = event (setFlags flags)
 
 -- what fields tell, one by one
 unfoldable pub happenings : List Valued → List Happening

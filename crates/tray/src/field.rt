@@ -21,7 +21,7 @@ use terminal::state::Held;
 use terminal::state::Reply;
 
 // What a field leaves.
-pub struct Happened {
+pub struct Shown {
     pub held: Held,
     pub answer: Answer,
 }
@@ -50,13 +50,13 @@ fn empty_ring(places: &mut [u16; 256]) -> Ring
 }
 
 // The host's actions bring no reply.
-fn silently(core: Core, ring: Ring) -> Happened
+fn silently(core: Core, ring: Ring) -> Shown
     ensures { λ left. ⌜ left ≡ record {
       held = record { core = core; ring = ring };
       answer = replied Silent;
     } ⌝ }
 {
-    Happened {
+    Shown {
         held: Held {
             core: core,
             ring: ring,
@@ -72,7 +72,7 @@ pub(crate) fn happen(
     ram: &mut [u16],
     window: &[u8],
     field: Field,
-) -> Happened
+) -> Shown
     requires { ⌜ WordsThere (now window) field ⌝ }
     ensures { λ left. ⌜ shown (cardOf (left .held) (now (places .exit)) (now (ram .exit)))
         (left .answer)
@@ -95,7 +95,7 @@ pub(crate) fn happen(
         Field::Word { marks, value, time } => {
             let heard = word::word_of(marks, value, time);
             let left = core.word(ring, places, ram, heard);
-            Happened {
+            Shown {
                 held: left,
                 answer: Answer::Replied(Reply::Silent),
             }
@@ -104,7 +104,7 @@ pub(crate) fn happen(
             let heard = core.silence(ring, places, ram, line == 1, time);
             let left = heard.held;
             let reply = heard.reply;
-            Happened {
+            Shown {
                 held: left,
                 answer: Answer::Replied(reply),
             }
@@ -112,7 +112,7 @@ pub(crate) fn happen(
         Field::ReadQueue => {
             let taken = ring.read(places);
             let left = taken.ring;
-            Happened {
+            Shown {
                 held: Held {
                     core: core,
                     ring: left,

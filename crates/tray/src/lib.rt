@@ -11,7 +11,7 @@ mod run;
 mod window;
 
 pub use rest::keep_rest;
-pub use run::Run;
-pub use window::Ran;
+pub use run::Tray;
+pub use window::Passed;
 pub use window::Stop;
 pub use window::run_window;

@@ -1,9 +1,9 @@
 // A row of data words, taken at once: three quarters of the fields of a busy rack are such words.
 // Here they are found; the terminal stores them.
 ghost use mathlib.Core.Path.{_≡_};
-ghost use Rattle.tray.specs.AsCoded.Row.{marksOn, stored, behindRow, ranAfter, RowTaken};
-use crate::run::Run;
-use crate::window::Ran;
+ghost use Rattle.tray.specs.AsCoded.Row.{marksOn, stored, behindRow, passedAfter, RowTaken};
+use crate::run::Tray;
+use crate::window::Passed;
 use lines;
 use message::state::Message;
 use message::state::OpenMessage;
@@ -21,7 +21,7 @@ struct Reach {
 
 // What a row of data words leaves of a run, and how many turns are left then.
 pub struct Rowed {
-    pub ran: Ran,
+    pub passed: Passed,
     pub left: u64,
 }
 
@@ -54,64 +54,64 @@ impl Reach {
 }
 
 // The run behind a row of so many words for its open message.
-fn after_row(ran: Ran, message: OpenMessage, end: Reach, words: u16) -> Ran
-    ensures { λ left. ⌜ left ≡ ranAfter ran message end words ⌝ }
+fn after_row(passed: Passed, message: OpenMessage, end: Reach, words: u16) -> Passed
+    ensures { λ left. ⌜ left ≡ passedAfter passed message end words ⌝ }
 {
-    let run = ran.run;
-    let held = run.held;
+    let tray = passed.tray;
+    let held = tray.held;
     let core = held.core;
     let ring = held.ring;
     let row = end.row;
-    let stop = ran.stop;
-    let seen = run.seen;
-    Ran {
-        run: Run {
+    let stop = passed.stop;
+    let seen = tray.seen;
+    Passed {
+        tray: Tray {
             held: Held {
                 core: core.after_row(message, row),
                 ring: ring,
             },
             seen: seen,
-            fields: num::wrapping_add_u64(run.fields, words as u64),
-            offset: num::wrapping_add_u64(run.offset, 10 * (words as u64)),
+            fields: num::wrapping_add_u64(tray.fields, words as u64),
+            offset: num::wrapping_add_u64(tray.offset, 10 * (words as u64)),
         },
         at: end.at,
-        put: ran.put,
+        put: passed.put,
         stop: stop,
     }
 }
 
 // The data words that stand next and are wanted. Each is a turn, but touches a few numbers alone.
-pub(crate) fn take_row(ran: Ran, ram: &mut [u16], window: &[u8], room: usize, most: u64) -> Rowed
-    ensures { λ rowed. ⌜ RowTaken (now (window .entry)) room most ran (now (ram .entry))
-        (rowed .left) (rowed .ran) (now (ram .exit)) ⌝ }
+pub(crate) fn take_row(passed: Passed, ram: &mut [u16], window: &[u8], room: usize, most: u64) -> Rowed
+    ensures { λ rowed. ⌜ RowTaken (now (window .entry)) room most passed (now (ram .entry))
+        (rowed .left) (rowed .passed) (now (ram .exit)) ⌝ }
 {
-    let run = ran.run;
-    let held = run.held;
+    let tray = passed.tray;
+    let held = tray.held;
     let core = held.core;
     let state = core.message;
     let Message::Open(message) = state else {
         return Rowed {
-            ran: ran,
+            passed: passed,
             left: most,
         };
     };
     let row = Row::of(message);
-    let able = run.seen.setup & (lines::LINE_ROOM <= room) & (32 < most) & (row.taken < row.wanted);
+    let able = tray.seen.setup & (lines::LINE_ROOM <= room) & (32 < most) & (row.taken < row.wanted);
     if !able {
         return Rowed {
-            ran: ran,
+            passed: passed,
             left: most,
         };
     }
     let start = Reach {
         row: row,
-        at: ran.at,
+        at: passed.at,
     };
     let end = start.store(ram, window, message.line);
     let last = end.row;
     let words = last.taken - row.taken;
     Rowed {
-        ran: after_row(ran, message, end, words),
+        passed: after_row(passed, message, end, words),
         left: most - (words as u64),
     }
 }

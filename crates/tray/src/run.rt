@@ -1,6 +1,6 @@
 // How far a run has come, and where it begins.
 ghost use mathlib.Core.Path.{_≡_};
-ghost use Rattle.tray.specs.AsCoded.Held.{runAtStart};
+ghost use Rattle.tray.specs.AsCoded.Held.{heldAtStart};
 use bus::limits::ALL_STATIONS;
 use card::place::Block;
 use queue::Ring;
@@ -9,7 +9,7 @@ use terminal::state::Core;
 use terminal::state::Held;
 
 // How far a run has come. The queue's places and the RAM are lent.
-pub struct Run {
+pub struct Tray {
     pub held: Held,
     // what the reader has seen
     pub seen: Seen,
@@ -19,10 +19,10 @@ pub struct Run {
     pub offset: u64,
 }
 
-impl Run {
+impl Tray {
     // Before the first field: the core is of no station.
-    pub fn at_start() -> Run
-        ensures { λ run. ⌜ run ≡ runAtStart ⌝ }
+    pub fn at_start() -> Tray
+        ensures { λ tray. ⌜ tray ≡ heldAtStart ⌝ }
     {
         let core = Core::at_setup(ALL_STATIONS, Block(0), 0);
         let ring = Ring {
@@ -30,7 +30,7 @@ impl Run {
             count: 0,
             overflow: false,
         };
-        Run {
+        Tray {
             held: Held {
                 core: core,
                 ring: ring,

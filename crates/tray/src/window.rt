@@ -13,7 +13,7 @@ ghost use Rattle.tray.specs.AsCoded.Held.{trayOf, passedOf, WasRead};
 use crate::field;
 use crate::print;
 use crate::row;
-use crate::run::Run;
+use crate::run::Tray;
 use lines;
 use recording;
 use recording::Field;
@@ -29,15 +29,15 @@ pub enum Stop {
 }
 
 // What a call leaves: the run, the place in the window, and how many bytes of lines there are.
-pub struct Ran {
-    pub run: Run,
+pub struct Passed {
+    pub tray: Tray,
     pub at: usize,
     pub put: usize,
     pub stop: Stop,
 }
 
 // What a last line leaves: how many bytes of lines there are, and why the call stops.
-struct Ended {
+struct Stopped {
     put: usize,
     stop: Stop,
 }
@@ -55,14 +55,14 @@ impl Stop {
     }
 }
 
-impl Ran {
-    fn with_stop(self, put: usize, stop: Stop) -> Ran
+impl Passed {
+    fn with_stop(self, put: usize, stop: Stop) -> Passed
         ensures { λ left. ⌜ left
-            ≡ record { run = self .run; at = self .at; put = put; stop = stop } ⌝ }
+            ≡ record { tray = self .tray; at = self .at; put = put; stop = stop } ⌝ }
     {
-        let run = self.run;
-        Ran {
-            run: run,
+        let tray = self.tray;
+        Passed {
+            tray: tray,
             at: self.at,
             put: put,
             stop: stop,
@@ -72,33 +72,33 @@ impl Ran {
 
 // A field is taken: what it tells comes about, and its line is printed.
 fn take_field(
-    ran: Ran,
+    passed: Passed,
     places: &mut [u16; 256],
     ram: &mut [u16],
     window: &[u8],
     out: &mut [u8],
     field: Field,
     next: usize,
-) -> Ran
-    requires { ⌜ WasRead (now window) field (ran .at) next ⌝ }
+) -> Passed
+    requires { ⌜ WasRead (now window) field (passed .at) next ⌝ }
     ensures { λ left. ⌜ passedOf left
         (now (places .exit)) (now (ram .exit)) (now (out .exit))
         ≡ takes (now (window .entry)) field next
-        (passedOf ran (now (places .entry)) (now (ram .entry)) (now (out .entry))) ⌝ }
+        (passedOf passed (now (places .entry)) (now (ram .entry)) (now (out .entry))) ⌝ }
 {
-    let run = ran.run;
-    let old = run.held;
+    let tray = passed.tray;
+    let old = tray.held;
     let left = field::happen(old, places, ram, window, field);
     let answer = left.answer;
     let held = left.held;
-    let put = print::put_answer(out, ran.put, ram, answer);
-    let size = (next - ran.at) as u64;
-    let fields = num::wrapping_add_u64(run.fields, 1);
-    let offset = num::wrapping_add_u64(run.offset, size);
-    let before = run.seen;
+    let put = print::put_answer(out, passed.put, ram, answer);
+    let size = (next - passed.at) as u64;
+    let fields = num::wrapping_add_u64(tray.fields, 1);
+    let offset = num::wrapping_add_u64(tray.offset, size);
+    let before = tray.seen;
     let seen = before.after(field);
-    Ran {
-        run: Run {
+    Passed {
+        tray: Tray {
             held: held,
             seen: seen,
             fields: fields,
@@ -112,19 +112,19 @@ fn take_field(
 
 // No field is taken, by the number of a refusal or 0 for the end of the bytes: more bytes are
 // needed or, where these are the last, the last line is printed.
-fn stop_at(out: &mut [u8], at: usize, number: u8, last: bool, fields: u64, offset: u64) -> Ended
+fn stop_at(out: &mut [u8], at: usize, number: u8, last: bool, fields: u64, offset: u64) -> Stopped
     ensures { λ end. ⌜ stopped (put (end .put) (now (out .exit))) (end .stop)
         ≡ stoppedAt number last fields offset (now (out .entry)) at ⌝ }
 {
     let hungry = !last & ((number == 0) | (number == 5));
     if hungry {
-        return Ended {
+        return Stopped {
             put: at,
             stop: Stop::Hungry,
         };
     }
     let next = print::put_last(out, at, number, fields, offset);
-    Ended {
+    Stopped {
         put: next,
         stop: Stop::Over,
     }
@@ -132,35 +132,35 @@ fn stop_at(out: &mut [u8], at: usize, number: u8, last: bool, fields: u64, offse
 
 // One field, if there is room for its line.
 fn turn(
-    ran: Ran,
+    passed: Passed,
     places: &mut [u16; 256],
     ram: &mut [u16],
     window: &[u8],
     out: &mut [u8],
     last: bool,
-) -> Ran
+) -> Passed
     ensures { λ left. ⌜ passedOf left
         (now (places .exit)) (now (ram .exit)) (now (out .exit))
         ≡ turn (now (window .entry)) last
-        (passedOf ran (now (places .entry)) (now (ram .entry)) (now (out .entry))) ⌝ }
+        (passedOf passed (now (places .entry)) (now (ram .entry)) (now (out .entry))) ⌝ }
 {
-    if lines::left_from(out.len(), ran.put) < lines::LINE_ROOM {
-        return ran.with_stop(ran.put, Stop::Full);
+    if lines::left_from(out.len(), passed.put) < lines::LINE_ROOM {
+        return passed.with_stop(passed.put, Stop::Full);
     }
-    let run = ran.run;
-    let seen = run.seen;
-    let reading = recording::read_field(window, ran.at, seen);
+    let tray = passed.tray;
+    let seen = tray.seen;
+    let reading = recording::read_field(window, passed.at, seen);
     match reading {
-        Reading::Taken { field, next } => { take_field(ran, places, ram, window, out, field, next) }
+        Reading::Taken { field, next } => { take_field(passed, places, ram, window, out, field, next) }
         Reading::End => {
-            let end = stop_at(out, ran.put, 0, last, run.fields, run.offset);
+            let end = stop_at(out, passed.put, 0, last, tray.fields, tray.offset);
             let stop = end.stop;
-            ran.with_stop(end.put, stop)
+            passed.with_stop(end.put, stop)
         }
         Reading::Refused { number, place: _ } => {
-            let end = stop_at(out, ran.put, number, last, run.fields, run.offset);
+            let end = stop_at(out, passed.put, number, last, tray.fields, tray.offset);
             let stop = end.stop;
-            ran.with_stop(end.put, stop)
+            passed.with_stop(end.put, stop)
         }
     }
 }
@@ -168,36 +168,36 @@ fn turn(
 // Every whole field of the window, from its first byte on, and their lines from the buffer's first
 // byte on. `last`: no more bytes will come.
 pub fn run_window(
-    run: Run,
+    tray: Tray,
     places: &mut [u16; 256],
     ram: &mut [u16],
     window: &[u8],
     out: &mut [u8],
     last: bool,
-) -> Ran
+) -> Passed
     ensures { λ left. ⌜ passedOf left
         (now (places .exit)) (now (ram .exit)) (now (out .exit))
-        ≡ windowRun (trayOf run (now (places .entry)) (now (ram .entry)))
+        ≡ windowRun (trayOf tray (now (places .entry)) (now (ram .entry)))
         (now (window .entry)) last (now (out .entry)) ⌝ }
 {
-    let mut ran = Ran {
-        run: run,
+    let mut passed = Passed {
+        tray: tray,
         at: 0,
         put: 0,
         stop: Stop::Going,
     };
     let mut turns = u64::MAX;
     while turns > 0 {
-        let stop = ran.stop;
+        let stop = passed.stop;
         if !stop.is_going() {
             break;
         }
-        let room = lines::left_from(out.len(), ran.put);
-        let rowed = row::take_row(ran, ram, window, room, turns);
-        let next = rowed.ran;
+        let room = lines::left_from(out.len(), passed.put);
+        let rowed = row::take_row(passed, ram, window, room, turns);
+        let next = rowed.passed;
         turns = rowed.left;
-        ran = turn(next, places, ram, window, out, last);
+        passed = turn(next, places, ram, window, out, last);
         turns -= 1;
     }
-    ran
+    passed
 }

@@ -18,7 +18,7 @@ an-open-message :
       command = 0x2862;
       line = true;
       block = theBlock 2;
-      home = theBlock 1;
+      table = theBlock 1;
       moved = false;
       busy = true;
       queued = false;

@@ -26,7 +26,7 @@ use Rattle.message.specs.declared.state.Message.{Message}
 use Rattle.message.specs.declared.state.Message.the-variants.{Idle, Open}
 use Rattle.terminal.specs.declared.state.Core.{Core}
 use Rattle.terminal.specs.declared.state.Held.{Held}
-use Rattle.tray.specs.declared.run.Run.{Run}
+use Rattle.tray.specs.declared.run.Tray.{Tray as HeldTray}
 use Rattle.lines.specs.Digits.{hexByte, hexWord, decimal}
 use Rattle.lines.specs.Lines.{blank, newline}
 use Rattle.lines.specs.Written.{Put, put, stored}
@@ -120,7 +120,7 @@ of-opening message =
 of-fixed : (message : OpenMessage) → AtMost 108 (fixedText message)
 unfolding fixedText
 of-fixed message =
-    both (both (both (named (bytes "table ") blank (of-decimal (message .home .0)))
+    both (both (both (named (bytes "table ") blank (of-decimal (message .table .0)))
     (named (bytes "moved ") blank (of-decimal (weightOf (message .moved) 1))))
     (named (bytes "busy ") blank (of-decimal (weightOf (message .busy) 1))))
     (named (bytes "queued ") blank (of-decimal (weightOf (message .queued) 1)))
@@ -201,7 +201,7 @@ of-terminal held places =
     (both (both (of-words (held .core)) (of-remembered (held .core))) (of-switches (held .core)))
     (of-queue places (held .ring))) (of-message (held .core .message))
 
-of-state : (run : Run) (places : List ℕ)
+of-state : (run : HeldTray) (places : List ℕ)
     → AtMost (437 + 21 * run .held .ring .count) (stateText run places)
 unfolding stateText
 of-state run places = go (run .seen .setup) where
@@ -243,7 +243,7 @@ put-whole out text after next fits enough =
 
 -- the state, then the cells, are all of what the program prints behind a run's lines; no more than
 -- 256 blocks wait, since a run leaves a fit terminal
-pub nothing-is-cut : (run : Run) (places ram out out₁ after : List ℕ) (next end : ℕ)
+pub nothing-is-cut : (run : HeldTray) (places ram out out₁ after : List ℕ) (next end : ℕ)
     → run .held .ring .count ≤ queuePlaces → length ram ≡ 16384 → length out ≡ 172032
     → put next out₁ ≡ fitted out 0 (stateText run places)
     → put end after ≡ fitted out₁ next (cellLines 0 ram)

@@ -25,7 +25,7 @@ use Rattle.message.specs.declared.state.Message.{Message}
 use Rattle.message.specs.declared.state.Message.the-variants.{Idle, Open}
 use Rattle.terminal.specs.declared.state.Core.{Core}
 use Rattle.terminal.specs.declared.state.Held.{Held}
-use Rattle.tray.specs.declared.run.Run.{Run}
+use Rattle.tray.specs.declared.run.Tray.{Tray as HeldTray}
 use Rattle.lines.specs.Digits.{hexByte, hexWord, decimal}
 use Rattle.lines.specs.Lines.{blank, newline}
 use Rattle.lines.specs.Written.{Put, put}
@@ -112,13 +112,13 @@ module _ {out : List ℕ} {at : ℕ} {after : List ℕ} {next : ℕ} where
   unfolding waitingText
   waiting-none places ring none fits = rw none fits
 
-  pub state-none : (run : Run) (places : List ℕ) → run .seen .setup ≡ false
+  pub state-none : (run : HeldTray) (places : List ℕ) → run .seen .setup ≡ false
       → Fits out at (bytes "terminal none\n") after next
       → put next after ≡ fitted out at (stateText run places)
   unfolding stateText
   state-none run places is fits = rw is (fits .is-fitted)
 
-  pub state-some : (run : Run) (places : List ℕ) → run .seen .setup ≡ true
+  pub state-some : (run : HeldTray) (places : List ℕ) → run .seen .setup ≡ true
       → Fits out at (terminalText (run .held) places) after next
       → put next after ≡ fitted out at (stateText run places)
   unfolding stateText
@@ -221,7 +221,7 @@ module _ {out out₁ out₂ : List ℕ} {at at₁ at₂ : ℕ} where
         fits-then (fits-then name (fits-then high low)) last
 
     pub fixed-fits : {after : List ℕ} {next : ℕ} (message : OpenMessage)
-        → Fits out at (part "table " (decimal (message .home .0))) out₁ at₁
+        → Fits out at (part "table " (decimal (message .table .0))) out₁ at₁
         → Fits out₁ at₁ (part "moved " (markText (message .moved))) out₂ at₂
         → Fits out₂ at₂ (part "busy " (markText (message .busy))) out₃ at₃
         → Fits out₃ at₃ (part "queued " (markText (message .queued))) after next

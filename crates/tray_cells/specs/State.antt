@@ -23,7 +23,7 @@ use Rattle.message.specs.declared.state.Message.{Message}
 use Rattle.message.specs.declared.state.Message.the-variants.{Idle, Open}
 use Rattle.terminal.specs.declared.state.Core.{Core}
 use Rattle.terminal.specs.declared.state.Held.{Held}
-use Rattle.tray.specs.declared.run.Run.{Run}
+use Rattle.tray.specs.declared.run.Tray.{Tray as HeldTray}
 use Rattle.lines.specs.Digits.{hexByte, hexWord, decimal}
 use Rattle.lines.specs.Lines.{blank, newline}
 use Rattle.tray_cells.specs.Text.{bytes}
@@ -78,7 +78,7 @@ openingText message =
 -- the table block, and what was fixed with it
 unfoldable pub fixedText : OpenMessage → List ℕ
 fixedText message =
-    part "table " (decimal (message .home .0))
+    part "table " (decimal (message .table .0))
     ++ part "moved " (markText (message .moved))
     ++ part "busy " (markText (message .busy))
     ++ part "queued " (markText (message .queued))
@@ -153,6 +153,6 @@ terminalText held places =
     ++ messageText (held .core .message)
 
 -- before a setup was taken there is no terminal
-unfoldable pub stateText : Run → List ℕ → List ℕ
+unfoldable pub stateText : HeldTray → List ℕ → List ℕ
 stateText run places =
     cond (run .seen .setup) (terminalText (run .held) places) (bytes "terminal none\n")

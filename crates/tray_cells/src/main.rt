@@ -8,15 +8,15 @@ mod text;
 use io;
 use libc::STDOUT_FILENO;
 use stream;
-use tray::Run;
+use tray::Tray;
 
 // State and cells, in one write. There is room for both (`nothing-is-cut`): with 256 blocks that
 // wait, the state takes some 1,300 bytes, and 16,384 cells take 163,840, at 10 bytes a line.
-fn print_left(run: Run, places: &[u16; 256], ram: &[u16; 16384]) {
+fn print_left(tray: Tray, places: &[u16; 256], ram: &[u16; 16384]) {
     let memory: &[u16] = ram;
     let mut space: [u8; 172032] = [0; 172032];
     let out: &mut [u8] = &mut space;
-    let next = state::put_state(out, 0, run, places);
+    let next = state::put_state(out, 0, tray, places);
     let end = cells::put_cells(out, next, memory);
     let text = &out[..];
     io::write_all(STDOUT_FILENO, &text[0..end]);
@@ -30,6 +30,6 @@ fn main() {
     if !done.whole {
         return;
     }
-    let run = done.run;
-    print_left(run, &places, &ram);
+    let tray = done.tray;
+    print_left(tray, &places, &ram);
 }

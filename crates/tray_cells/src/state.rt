@@ -40,7 +40,7 @@ use message::state::Stage;
 use queue::Ring;
 use terminal::state::Core;
 use terminal::state::Held;
-use tray::Run;
+use tray::Tray;
 
 // ---- items: a name, a value, and what stands behind it
 
@@ -130,7 +130,7 @@ fn put_fixed(out: &mut [u8], at: usize, message: OpenMessage) -> usize
     ensures { λ next. ⌜ Fits (now (out .entry)) at (fixedText message)
         (now (out .exit)) next ⌝ }
 {
-    let first = put_number(out, at, b"table ", message.home.0, b' ');
+    let first = put_number(out, at, b"table ", message.table.0, b' ');
     let second = put_mark(out, first, b"moved ", message.moved, b' ');
     let third = put_mark(out, second, b"busy ", message.busy, b' ');
     put_mark(out, third, b"queued ", message.queued, b' ')
@@ -270,12 +270,12 @@ fn put_terminal(out: &mut [u8], at: usize, held: Held, places: &[u16; 256]) -> u
 }
 
 // Every item of the state. Before a setup was taken there is no terminal.
-pub fn put_state(out: &mut [u8], at: usize, run: Run, places: &[u16; 256]) -> usize
+pub fn put_state(out: &mut [u8], at: usize, tray: Tray, places: &[u16; 256]) -> usize
     ensures { λ next. ⌜ put next (now (out .exit))
-        ≡ fitted (now (out .entry)) at (stateText run (now (places .entry))) ⌝ }
+        ≡ fitted (now (out .entry)) at (stateText tray (now (places .entry))) ⌝ }
 {
-    let held = run.held;
-    let seen = run.seen;
+    let held = tray.held;
+    let seen = tray.seen;
     if seen.setup {
         return put_terminal(out, at, held, places);
     }

@@ -35,7 +35,7 @@ fn open_message(row: &[u8]) -> OpenMessage {
         command: notation::word_in(row, 11),
         line: false,
         block: notation::word_in(row, 12),
-        home: notation::word_in(row, 13),
+        table: notation::word_in(row, 13),
         moved: false,
         busy: false,
         queued: false,

@@ -8,7 +8,7 @@ use message::state::Stage;
 use queue::Ring;
 use terminal::state::Core;
 use tray;
-use tray::Run;
+use tray::Tray;
 
 // ---- what a run leaves, in the bytes of the notation
 
@@ -81,14 +81,14 @@ struct Sizes {
 fn run_recording(recording: &[u8], out: &mut [u8]) -> Sizes {
     let mut places: [u16; 256] = [0; 256];
     let mut ram: [u16; 16384] = [0; 16384];
-    let ran = tray::run_window(Run::at_start(), &mut places, &mut ram, recording, out, true);
-    let run = ran.run;
-    let held = run.held;
+    let passed = tray::run_window(Tray::at_start(), &mut places, &mut ram, recording, out, true);
+    let tray = passed.tray;
+    let held = tray.held;
     let core = held.core;
     let ring = held.ring;
-    let next = put_state(out, ran.put, core, ring);
+    let next = put_state(out, passed.put, core, ring);
     Sizes {
-        lines: ran.put,
+        lines: passed.put,
         all: put_cells(out, next, &ram),
     }
 }

@@ -14,7 +14,7 @@ use Rattle.terminal.specs.State.{Card}
 use Rattle.terminal.specs.Event.{Event, word, none, keeping, afresh}
 use Rattle.terminal.specs.Machine.{step, run}
 use Rattle.bus.specs.Word.{wordOf}
-use Rattle.terminal_laws.specs.OneBlock.{Kept, SameAfter, Calm, Settled, Spared, ThatBlock}
+use Rattle.terminal_laws.specs.OneBlock.{Kept, SameAfter, Calm, BothOver, Spared, ThatBlock}
 use Rattle.terminal_laws.proofs.OneBlock.Theorem.{one-block}
 use Rattle.runs.proofs.Telling.{runs, unsoundA, put, word1, word2, quiet, atSetup}
 
@@ -39,15 +39,15 @@ pub record Receives (command : Word) (old : Card) : Type 0 where
   pub opens : step (word command) old .opened ≢ none
 
 -- with all of it, this is the theorem
-the-theorem : Claim Receives Calm Settled Spared SameAfter
-the-theorem old command one two after opening calm-one calm-two settled spared =
+the-theorem : Claim Receives Calm BothOver Spared SameAfter
+the-theorem old command one two after opening calm-one calm-two both-over spared =
     one-block old command one two after
     (record {
       receives = opening .receives;
       opens = opening .opens;
       calm-one = calm-one;
       calm-two = calm-two;
-      settled = settled;
+      both-over = both-over;
       spared = spared;
     })
 

@@ -18,7 +18,7 @@ use Rattle.terminal.specs.declared.state.Reply.the-variants.{Silent, Status, Wo
 use Rattle.terminal.specs.declared.state.Answer.{Answer}
 use Rattle.terminal.specs.declared.state.Answer.the-variants.{Replied}
 use Rattle.terminal.specs.State.{Card}
-use Rattle.terminal.specs.Event.{Event, word, silence, queueRead, none}
+use Rattle.terminal.specs.Event.{Event, word, silence, readQueue, none}
 use Rattle.terminal.specs.Machine.{step, run}
 use Rattle.bus.specs.Word.{wordOf}
 use Rattle.terminal_laws.specs.OneBlock.{
@@ -32,7 +32,7 @@ use Rattle.terminal_laws.specs.OneBlock.{
   nothing,
   a-word,
   a-silence,
-  Settled,
+  BothOver,
   closed,
   Spared,
   ThatBlock,
@@ -82,7 +82,7 @@ abbrev Opens : Word → Card → Type 0
 Opens any old = step (word any) old .opened ≢ none
 
 -- mode code 4 shuts line B at its sound end, and not after a fault
-a-command-that-is-no-receive-would-differ : Claim Opens Calm Settled Spared SameAfter → ⊥
+a-command-that-is-no-receive-would-differ : Claim Opens Calm BothOver Spared SameAfter → ⊥
 unfolding runs chains ThatBlock Later sparedFrom
 a-command-that-is-no-receive-would-differ claim =
     let shuts : Word = wordOf 0x06 0x2C04 0x28 in
@@ -104,16 +104,16 @@ data Unopening : List Event → Card → Type 0 where
       → Unopening (event ∷ events) card
 
 -- a host action in one stretch writes a cell
-a-host-action-would-differ : Claim Receives Unopening Settled Spared SameAfter → ⊥
+a-host-action-would-differ : Claim Receives Unopening BothOver Spared SameAfter → ⊥
 unfolding runs chains ThatBlock Later sparedFrom
 a-host-action-would-differ claim =
     let differs : _≡_ {A = ℕ} 7 0 =
-    claim (chains 0x4002 0) command (put 64 0 7 ∷ sound) sound (queueRead ∷ [])
+    claim (chains 0x4002 0) command (put 64 0 7 ∷ sound) sound (readQueue ∷ [])
     (tray-command 0x4002 0)
     (an-event refl (an-event refl (an-event refl (an-event refl no-event))))
     (an-event refl (an-event refl (an-event refl no-event)))
     (closed refl refl)
-    (spared-from (theBlock 2) (queueRead ∷ [])
+    (spared-from (theBlock 2) (readQueue ∷ [])
     (run (word command ∷ put 64 0 7 ∷ sound) (chains 0x4002 0))
     refl)
     .later .0 .cards .cell 4096 (kept-elsewhere (theBlock 2) 4096 (λ is. omega arith)) in
@@ -129,17 +129,17 @@ data OnBus : List Event → Card → Type 0 where
       → OnBus (silence line time ∷ events) card
 
 -- another message in one stretch costs the next block
-another-opening-would-differ : Claim Receives OnBus Settled Spared SameAfter → ⊥
+another-opening-would-differ : Claim Receives OnBus BothOver Spared SameAfter → ⊥
 unfolding runs chains ThatBlock Later sparedFrom
 another-opening-would-differ claim =
     let differs : _≡_ {A = ℕ} 0x4300 0 =
     claim (chains 0x4002 0) command
-    (word1 ∷ word2 ∷ quiet ∷ commandA 0x2862 0x70 ∷ silenceA 0x80 ∷ []) sound (queueRead ∷ [])
+    (word1 ∷ word2 ∷ quiet ∷ commandA 0x2862 0x70 ∷ silenceA 0x80 ∷ []) sound (readQueue ∷ [])
     (tray-command 0x4002 0)
     (any-word (any-word (any-silence (any-word (any-silence no-more)))))
     (any-word (any-word (any-silence no-more)))
     (closed refl refl)
-    (spared-from (theBlock 2) (queueRead ∷ [])
+    (spared-from (theBlock 2) (readQueue ∷ [])
     (run
     (word command ∷ word1 ∷ word2 ∷ quiet ∷ commandA 0x2862 0x70 ∷ silenceA 0x80 ∷ [])
     (chains 0x4002 0))
@@ -157,9 +157,9 @@ an-open-message-would-differ : Claim Receives Calm Unsettled Spared SameAfter �
 unfolding runs chains ThatBlock Later sparedFrom
 an-open-message-would-differ claim =
     let queues =
-    claim (chains 0x4002 0) command sound (word1 ∷ []) (queueRead ∷ []) (tray-command 0x4002 0)
+    claim (chains 0x4002 0) command sound (word1 ∷ []) (readQueue ∷ []) (tray-command 0x4002 0)
     (a-word refl (a-word refl (a-silence nothing))) (a-word refl nothing) whatever
-    (spared-from (theBlock 2) (queueRead ∷ []) (run (word command ∷ sound) (chains 0x4002 0)) refl)
+    (spared-from (theBlock 2) (readQueue ∷ []) (run (word command ∷ sound) (chains 0x4002 0)) refl)
     .later .0 .cards .queue .entries in
     let differs : _≡_ {A = ℕ} 1 0 = ap (λ (queue : Queue). queue .ring .start) queues in
     omega arith
@@ -199,7 +199,7 @@ silent-sends-none : (status : ℕ) (block : Block) (count : ℕ)
 silent-sends-none status block count is spent = clash (cc)
 
 -- a data word in cell 1 of the table is where the chain of subaddress 1 goes
-a-block-that-is-the-table-would-differ : Claim Receives Calm Settled NoSource SameAfter → ⊥
+a-block-that-is-the-table-would-differ : Claim Receives Calm BothOver NoSource SameAfter → ⊥
 unfolding runs chains ThatBlock Later NoSource
 a-block-that-is-the-table-would-differ claim =
     let differs : _≡_ {A = ℕ} 0x4300 0 =
@@ -220,7 +220,7 @@ one-is-not-two : theBlock 1 ≡ theBlock 2 → ⊥
 one-is-not-two is = omega (arith, ap (λ (any : Block). any .0) is)
 
 -- the words that were received are sent
-a-block-that-is-sent-would-differ : Claim Receives Calm Settled NoTable SameAfter → ⊥
+a-block-that-is-sent-would-differ : Claim Receives Calm BothOver NoTable SameAfter → ⊥
 unfolding runs chains ThatBlock Later NoTable
 a-block-that-is-sent-would-differ claim =
     let words =

@@ -29,7 +29,7 @@ use Rattle.terminal_laws.specs.OneBlock.{
   nothing,
   a-word,
   a-silence,
-  Settled,
+  BothOver,
   closed,
   superseded,
   Spared,
@@ -61,7 +61,7 @@ SameAnswers Spent (event ∷ after) here there =
     (step event here .answer ≡ step event there .answer)
     × SameAnswers Spent after (step event here .card) (step event there .card)
 
-the-message-error-bit-differs : Claim Receives Calm Settled Spared SameAnswers → ⊥
+the-message-error-bit-differs : Claim Receives Calm BothOver Spared SameAnswers → ⊥
 unfolding runs chains ThatBlock SameAnswers sparedFrom
 the-message-error-bit-differs claim =
     let answers : Replied (Status 0x2800) ≡ Replied (Status 0x2C00) =
@@ -104,7 +104,7 @@ abbrev asked-last : List Event
 asked-last = commandA 0x2C12 0x70 ∷ silenceA 0x80 ∷ []
 
 -- it supersedes the message of one run, and keeps the status
-the-message-error-bit-differs-in-code-18 : Claim Receives Calm Settled Spared SameButInStatus → ⊥
+the-message-error-bit-differs-in-code-18 : Claim Receives Calm BothOver Spared SameButInStatus → ⊥
 unfolding runs chains ThatBlock AnswersButInStatus sparedFrom
 the-message-error-bit-differs-in-code-18 claim =
     let answers : Replied (Last 0x2C00 0x2862) ≡ Replied (Last 0x2800 0x2862) =
@@ -132,7 +132,7 @@ data-of-two : (block : Block) (cell : Cell) → block ≡ theBlock 2 → 58 ≤ 
     → 129 ≢ wordAddress block cell
 data-of-two block cell is from to named = omega (arith, ap (λ (any : Block). any .0) is)
 
-data-cells-differ : Claim Receives Calm Settled Spared SameButService → ⊥
+data-cells-differ : Claim Receives Calm BothOver Spared SameButService → ⊥
 unfolding runs chains ThatBlock sparedFrom
 data-cells-differ claim =
     let differs : _≡_ {A = ℕ} 0x2222 0 =
@@ -155,7 +155,7 @@ service-of-two : (block : Block) (cell : Cell) → block ≡ theBlock 2 → cell
     → 186 ≢ wordAddress block cell
 service-of-two block cell is low named = omega (arith, ap (λ (any : Block). any .0) is)
 
-service-cells-differ : Claim Receives Calm Settled Spared SameButData → ⊥
+service-cells-differ : Claim Receives Calm BothOver Spared SameButData → ⊥
 unfolding runs chains ThatBlock sparedFrom
 service-cells-differ claim =
     let differs : _≡_ {A = ℕ} 0x0002 0x4101 =

@@ -8,7 +8,7 @@ use Rattle.card.specs.Memory.{theBlock}
 use Rattle.card.specs.Sent.{sentPart}
 use Rattle.terminal.specs.declared.state.Reply.the-variants.{Silent, Words, Last}
 use Rattle.terminal.specs.State.{Card}
-use Rattle.terminal.specs.Event.{Event, word, queueRead, replied, queueWord}
+use Rattle.terminal.specs.Event.{Event, word, readQueue, replied, queueWord}
 use Rattle.terminal.specs.Machine.{run}
 use Rattle.bus.specs.Word.{wordOf}
 use Rattle.terminal_laws.specs.OneBlock.{
@@ -55,7 +55,7 @@ abbrev by-transmit : List Event
 by-transmit =
     commandA 0x2C62 0x70 ∷ silenceA 0x80
     ∷ commandA 0x2C12 0x90 ∷ silenceA 0xA0
-    ∷ queueRead ∷ queueRead ∷ []
+    ∷ readQueue ∷ readQueue ∷ []
 
 -- the last command; a transmit message of station 6, which opens nothing here, and the last command
 -- again; a transmit message, and the last command once more; the queue
@@ -67,7 +67,7 @@ by-last =
     ∷ commandA 0x2C12 0xE0 ∷ silenceA 0xF0
     ∷ commandA 0x2C62 0x100 ∷ silenceA 0x110
     ∷ commandA 0x2C12 0x120 ∷ silenceA 0x130
-    ∷ queueRead ∷ queueRead ∷ []
+    ∷ readQueue ∷ readQueue ∷ []
 
 -- ---- superseded by a transmit command
 
@@ -79,7 +79,7 @@ all-holds-by-transmit =
       opens = afresh-is-not-none;
       calm-one = a-word refl (a-word refl (a-silence nothing));
       calm-two = a-word refl nothing;
-      settled = superseded (wordOf 0x06 0x2C62 0x70) afresh-is-not-none refl;
+      both-over = superseded (wordOf 0x06 0x2C62 0x70) afresh-is-not-none refl;
       spared = spared-from (theBlock 2) by-transmit (run (word command ∷ sound) met) refl;
     }
 
@@ -128,7 +128,7 @@ all-holds-by-last =
       opens = afresh-is-not-none;
       calm-one = a-word refl (a-word refl (a-silence nothing));
       calm-two = a-word refl nothing;
-      settled = superseded (wordOf 0x06 0x2C12 0x70) keeping-is-not-none refl;
+      both-over = superseded (wordOf 0x06 0x2C12 0x70) keeping-is-not-none refl;
       spared = spared-from (theBlock 2) by-last (run (word command ∷ sound) met) refl;
     }
 

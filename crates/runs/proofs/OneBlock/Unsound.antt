@@ -10,7 +10,7 @@ use Rattle.terminal.specs.State.{Card}
 use Rattle.terminal.specs.Event.{
   Event,
   word,
-  queueRead,
+  readQueue,
   hostWrite,
   replied,
   queueWord,
@@ -63,7 +63,7 @@ after =
     commandA 0x2C02 0x70 ∷ silenceA 0x80
     ∷ commandA 0x2862 0x90 ∷ dataA 0x3333 0xA0 ∷ dataA 0x4444 0xB0 ∷ silenceA 0xC0
     ∷ commandA 0x2C02 0xD0 ∷ silenceA 0xE0
-    ∷ queueRead ∷ queueRead ∷ []
+    ∷ readQueue ∷ readQueue ∷ []
 
 -- ---- all that is asked holds
 
@@ -75,7 +75,7 @@ all-holds =
       opens = afresh-is-not-none;
       calm-one = a-word refl (a-word refl (a-silence nothing));
       calm-two = a-word refl (a-word refl (a-silence nothing));
-      settled = closed refl refl;
+      both-over = closed refl refl;
       spared = spared-from (theBlock 2) after (run (word command ∷ sound) met) refl;
     }
 

@@ -64,7 +64,7 @@ pub record Grown (window : List ℕ) (have : ℕ) (window′ : List ℕ) (heard 
 abbrev pub afterRead : Pump → Heard → Pump
 afterRead old heard =
     record {
-      run = old .run;
+      tray = old .tray;
       have = heard .have;
       ended = eqb (heard .have) (old .have);
       over = isFailure (heard .answer);
@@ -105,21 +105,21 @@ pub record RoomToRead (have : ℕ) (window : List ℕ) (stop : Stop) : Type 0 wh
 
 -- nothing, if its lines were not taken, or if it had no room for more; a run that has come to its
 -- end is whole only if they were
-pub data Settled (pump : Pump) (window : List ℕ) : Stop → Pump → List ℕ → Type 0 where
-  breaks-off : {stop : Stop} → pump .over ≡ true → Settled pump window stop pump window
+pub data AfterCall (pump : Pump) (window : List ℕ) : Stop → Pump → List ℕ → Type 0 where
+  breaks-off : {stop : Stop} → pump .over ≡ true → AfterCall pump window stop pump window
   stays : {stop : Stop} → pump .over ≡ false → stop ≢ Over → stop ≢ Hungry
-      → Settled pump window stop pump window
+      → AfterCall pump window stop pump window
   ends-run : {next : Pump} → pump .over ≡ false
       → next ≡ record {
-        run = pump .run;
+        tray = pump .tray;
         have = pump .have;
         ended = pump .ended;
         over = true;
         whole = true;
       }
-      → Settled pump window Over next window
+      → AfterCall pump window Over next window
   reads-on : {next : Pump} {window′ : List ℕ} → pump .over ≡ false
-      → ReadOn pump window next window′ → Settled pump window Hungry next window′
+      → ReadOn pump window next window′ → AfterCall pump window Hungry next window′
 
 -- the two together are a turn
 pub record Turned (old : Tray) (window : List ℕ) (have : ℕ) (ended : Bool)

@@ -168,20 +168,20 @@ module _ {Spent : Block → Type 0} where
   both-link block table cell agree =
       rw (agree .cell (wordAddress block (theCell 63)) (link-kept block)) (both-cell _ _ _ agree)
 
-  pub both-linked : {ram other : List ℕ} (moved : Bool) (block home : Block) (cell : Cell)
+  pub both-linked : {ram other : List ℕ} (moved : Bool) (block table : Block) (cell : Cell)
       → Agree Spent ram other
-      → Agree Spent (linked moved block home cell ram) (linked moved block home cell other)
-  both-linked true block home cell agree = agree
-  both-linked false block home cell agree = both-link block home cell agree
+      → Agree Spent (linked moved block table cell ram) (linked moved block table cell other)
+  both-linked true block table cell agree = agree
+  both-linked false block table cell agree = both-link block table cell agree
 
   -- ---- reading
 
   -- a cell of a block that was not spent, as one of the table
-  pub same-entry : {ram other : List ℕ} (table : Block) (cell : Cell) → (Spent table → ⊥)
+  pub same-table-word : {ram other : List ℕ} (table : Block) (cell : Cell) → (Spent table → ⊥)
       → cell .0 < blockCells → Agree Spent ram other
       → cellAt ram table cell ≡ cellAt other table cell
   unfolding cellAt
-  same-entry table cell unspent inside agree =
+  same-table-word table cell unspent inside agree =
       agree .cell (wordAddress table cell) (unspent-kept table cell unspent inside)
 
   -- the words that a block sends
@@ -191,4 +191,4 @@ module _ {Spent : Block → Type 0} where
       ≡ take count (drop (wordAddress block (theCell 0)) other)
   same-part {ram} {other} block count unspent low agree =
       part-of-same-cells ram other block count (agree .long)
-      (λ cell below. same-entry block cell unspent (omega arith) agree)
+      (λ cell below. same-table-word block cell unspent (omega arith) agree)

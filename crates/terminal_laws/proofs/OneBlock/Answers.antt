@@ -31,17 +31,17 @@ use Rattle.terminal.specs.Event.{
   Event,
   word,
   silence,
-  queueRead,
+  readQueue,
   hostWrite,
-  tableMove,
-  flagsWrite,
+  moveTable,
+  setFlags,
 }
 use Rattle.terminal.specs.SilenceStep.{silenceDone, silenceMet, silenceStep}
 use Rattle.terminal.specs.Machine.{
-  queueReadStep,
+  readQueueStep,
   hostWriteStep,
-  tableMoveStep,
-  flagsWriteStep,
+  moveTableStep,
+  setFlagsStep,
   step,
 }
 use Rattle.terminal.proofs.SilentLaws.{words-are-silent}
@@ -133,13 +133,13 @@ at-most-silence (Open message) line time old =
     at-most-done (onSilence (asks message) message line) message time old
 
 at-most-answer : (event : Event) (old : Card) → AtMost32 (step event old .answer)
-unfolding step silenceStep queueReadStep hostWriteStep tableMoveStep flagsWriteStep
+unfolding step silenceStep readQueueStep hostWriteStep moveTableStep setFlagsStep
 at-most-answer (word heard) old = subst AtMost32 (sym (words-are-silent heard old)) silent
 at-most-answer (silence line time) old = at-most-silence (old .core .message) line time old
-at-most-answer queueRead old = a-queue-word
+at-most-answer readQueue old = a-queue-word
 at-most-answer (hostWrite address words) old = silent
-at-most-answer (tableMove table) old = silent
-at-most-answer (flagsWrite flags) old = silent
+at-most-answer (moveTable table) old = silent
+at-most-answer (setFlags flags) old = silent
 
 at-most-count : {answer : Answer} {status : ℕ} {block : Block} {count : ℕ} → AtMost32 answer
     → answer ≡ Replied (Words status block count) → count ≤ 32

@@ -35,7 +35,7 @@ use Rattle.terminal.specs.Opening.{
   openedMessage,
   openedStatus,
   openedCore,
-  entryAt,
+  tableWordAt,
   opening,
 }
 use Rattle.terminal.specs.Closing.{
@@ -49,7 +49,7 @@ use Rattle.terminal.specs.Closing.{
 }
 use Rattle.terminal.specs.Event.{openedBy}
 use Rattle.terminal_laws.specs.OneBlock.{SameQueue, stillBefore}
-use Rattle.terminal_laws.proofs.OneBlock.Agreement.{Agree, both-service, both-linked, same-entry}
+use Rattle.terminal_laws.proofs.OneBlock.Agreement.{Agree, both-service, both-linked, same-table-word}
 use Rattle.terminal_laws.proofs.OneBlock.Queues.{same-closed}
 use Rattle.terminal_laws.proofs.OneBlock.Relation.{
   Asks,
@@ -76,42 +76,42 @@ both-closed {Spent} {ram} {other} asked state time message agree = go (asked .bl
   where
     go : (block : Bool) → Agree Spent
         (cond block
-        (linked (message .moved) (message .block) (message .home) (asked .cell)
+        (linked (message .moved) (message .block) (message .table) (asked .cell)
         (withService ram (message .block) state time (ticksOf (message .opened) time)))
         ram)
         (cond block
-        (linked (message .moved) (message .block) (message .home) (asked .cell)
+        (linked (message .moved) (message .block) (message .table) (asked .cell)
         (withService other (message .block) state time (ticksOf (message .opened) time)))
         other)
     go true =
-        both-linked (message .moved) (message .block) (message .home) (asked .cell)
+        both-linked (message .moved) (message .block) (message .table) (asked .cell)
         (both-service (message .block) state time (ticksOf (message .opened) time) agree)
     go false = agree
 
 -- ---- the remembered status at an opening
 
 -- a message of another command makes it anew, the same in both
-statuses-opened : {before : Bool} {message : Message} (kind : Kind) (entry : ℕ) (word : Word)
+statuses-opened : {before : Bool} {message : Message} (kind : Kind) (tableWord : ℕ) (word : Word)
     (core : Core) (status : ℕ) → kindOf (word .value) ≡ kind
     → Statuses before message (core .status) status
     → Statuses (stillBefore before (openedBy (askedBy kind (word .value))))
-    (Open (openedMessage (askedBy kind (word .value)) entry word core))
-    (openedStatus (askedBy kind (word .value)) entry word core)
-    (openedStatus (askedBy kind (word .value)) entry word (withStatus status core))
+    (Open (openedMessage (askedBy kind (word .value)) tableWord word core))
+    (openedStatus (askedBy kind (word .value)) tableWord word core)
+    (openedStatus (askedBy kind (word .value)) tableWord word (withStatus status core))
 unfolding stillBefore openedBy askedBy openedStatus openedMessage withStatus
-statuses-opened Receive entry word core status is statuses = equal
-statuses-opened Transmit entry word core status is statuses = equal
-statuses-opened ModeStatus entry word core status is equal = equal
-statuses-opened ModeStatus entry word core status is (but-error asks same) =
+statuses-opened Receive tableWord word core status is statuses = equal
+statuses-opened Transmit tableWord word core status is statuses = equal
+statuses-opened ModeStatus tableWord word core status is equal = equal
+statuses-opened ModeStatus tableWord word core status is (but-error asks same) =
     but-error (asking (subst Asks (sym is) asks-status)) same
-statuses-opened ModeLast entry word core status is equal = equal
-statuses-opened ModeLast entry word core status is (but-error asks same) =
+statuses-opened ModeLast tableWord word core status is equal = equal
+statuses-opened ModeLast tableWord word core status is (but-error asks same) =
     but-error (asking (subst Asks (sym is) asks-last)) same
-statuses-opened ModeSwitch entry word core status is statuses = equal
-statuses-opened ModeSend entry word core status is statuses = equal
-statuses-opened ModeTake entry word core status is statuses = equal
-statuses-opened ModeReply entry word core status is statuses = equal
-statuses-opened Illegal entry word core status is statuses = equal
+statuses-opened ModeSwitch tableWord word core status is statuses = equal
+statuses-opened ModeSend tableWord word core status is statuses = equal
+statuses-opened ModeTake tableWord word core status is statuses = equal
+statuses-opened ModeReply tableWord word core status is statuses = equal
+statuses-opened Illegal tableWord word core status is statuses = equal
 
 -- ---- on a card, and on one with another remembered status, a queue that is the same, and a memory
 -- that agrees
@@ -155,14 +155,14 @@ module _ {Spent : Block → Type 0} {before : Bool} (core : Core) (status : ℕ)
   unfolding opening openedCore openedMessage withStatus withLast withMessage
   related-opened word unspent statuses =
       let asked = askedOf (word .value) in
-      let entry = entryAt word core ram in
+      let tableWord = tableWordAt word core ram in
       record {
-        status = openedStatus asked entry word (withStatus status core);
+        status = openedStatus asked tableWord word (withStatus status core);
         core =
-            rw (same-entry (core .table) (asked .cell) unspent
+            rw (same-table-word (core .table) (asked .cell) unspent
             (cell-in-table (word .value)) agree) refl;
         queue = queues;
-        statuses = statuses-opened (kindOf (word .value)) entry word core status refl statuses;
+        statuses = statuses-opened (kindOf (word .value)) tableWord word core status refl statuses;
         cells = agree;
       }
 

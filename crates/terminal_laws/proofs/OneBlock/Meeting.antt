@@ -23,7 +23,7 @@ use Rattle.terminal.specs.Closing.{closing, faulted}
 use Rattle.terminal.specs.Event.{Event, word, none, quietly, opens}
 use Rattle.terminal.specs.WordStep.{wordDone, wordStep}
 use Rattle.terminal.specs.Machine.{step}
-use Rattle.terminal_laws.specs.OneBlock.{same, Later, Settled, closed, superseded, Spared}
+use Rattle.terminal_laws.specs.OneBlock.{same, Later, BothOver, closed, superseded, Spared}
 use Rattle.terminal_laws.proofs.OneBlock.Agreement.{agree-sym, agree-trans, both-linked}
 use Rattle.terminal_laws.proofs.OneBlock.Queues.{same-closed}
 use Rattle.terminal_laws.proofs.OneBlock.Relation.{
@@ -125,7 +125,7 @@ module _ {Spent : Block → Type 0} {before : Bool} (start start′ : Card) (mes
         cells =
             agree-trans (agree-sym agree)
             (agree-trans
-            (both-linked (message .moved) (message .block) (message .home)
+            (both-linked (message .moved) (message .block) (message .table)
             (asks message .cell) (related .cells))
             agree′);
       }
@@ -165,7 +165,7 @@ module _ {Spent : Block → Type 0} {before : Bool} (start start′ : Card) (mes
 
     pub stretches-meet : {here there : Card} (after : List Event)
         → Span Spent start message here → Span Spent start′ message there
-        → Settled here there after → Spared Spent after here → Meet Spent here there after
+        → BothOver here there after → Spared Spent after here → Meet Spent here there after
     unfolding Spared
     stretches-meet after span span′ (closed idle idle′) spared =
         at-once (both-gone span span′ idle idle′)

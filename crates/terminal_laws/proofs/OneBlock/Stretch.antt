@@ -71,7 +71,7 @@ use Rattle.terminal_laws.proofs.OneBlock.Acts.{opens-something}
 -- memory after the closing, but for the cells that it costs
 abbrev pub linkedBy : OpenMessage → List ℕ → List ℕ
 linkedBy message ram =
-    linked (message .moved) (message .block) (message .home) (asks message .cell) ram
+    linked (message .moved) (message .block) (message .table) (asks message .cell) ram
 
 -- the message further on, and the message gone
 abbrev pub onward : Card → OpenMessage → Stage → Second → ℕ → List ℕ → Card
@@ -112,7 +112,7 @@ module _ {Spent : Block → Type 0} (start : Card) (message : OpenMessage)
     unfolding closedRam further askedBy
     agree-closed state time =
         rw receives
-        (both-linked (message .moved) (message .block) (message .home) _
+        (both-linked (message .moved) (message .block) (message .table) _
         (agree-trans agree
         (agree-service (message .block) state time (ticksOf (message .opened) time) spent ram)))
 

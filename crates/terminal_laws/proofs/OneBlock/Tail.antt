@@ -46,10 +46,10 @@ use Rattle.terminal.specs.Event.{
   Event,
   word,
   silence,
-  queueRead,
+  readQueue,
   hostWrite,
-  tableMove,
-  flagsWrite,
+  moveTable,
+  setFlags,
   queueWord,
   quietly,
   opens,
@@ -58,10 +58,10 @@ use Rattle.terminal.specs.Event.{
 use Rattle.terminal.specs.WordStep.{wordDone, wordMet, wordStep}
 use Rattle.terminal.specs.SilenceStep.{silenceDone, silenceMet, silenceStep}
 use Rattle.terminal.specs.Machine.{
-  queueReadStep,
+  readQueueStep,
   hostWriteStep,
-  tableMoveStep,
-  flagsWriteStep,
+  moveTableStep,
+  setFlagsStep,
   step,
   run,
 }
@@ -224,9 +224,9 @@ module _ {Spent : Block → Type 0} {before : Bool} (core : Core) (status : ℕ)
   still-silence (Open message) line time remembered =
       still-silence-done (onSilence (asks message) message line) message time remembered
 
-  -- the oldest entry leaves the queue
-  still-read : StillRelated Spent before (core .message) (queueReadStep here) (queueReadStep there)
-  unfolding queueReadStep stillBefore
+  -- the oldest tableWord leaves the queue
+  still-read : StillRelated Spent before (core .message) (readQueueStep here) (readQueueStep there)
+  unfolding readQueueStep stillBefore
   still-read =
       record {
         answer =
@@ -246,17 +246,17 @@ module _ {Spent : Block → Type 0} {before : Bool} (core : Core) (status : ℕ)
   -- each event
   still-event : (event : Event)
       → StillRelated Spent before (core .message) (step event here) (step event there)
-  unfolding step wordStep silenceStep hostWriteStep tableMoveStep flagsWriteStep withStatus withTable
+  unfolding step wordStep silenceStep hostWriteStep moveTableStep setFlagsStep withStatus withTable
       withFlags withMessage
   still-event (word heard) = still-word (core .message) heard statuses
   still-event (silence line time) = still-silence (core .message) line time statuses
-  still-event queueRead = still-read
+  still-event readQueue = still-read
   still-event (hostWrite address words) =
       still (core .message) core _ _ statuses (both-words address words agree)
-  still-event (tableMove table) =
+  still-event (moveTable table) =
       still (core .message) (withTable table (withMessage (movedMessage (core .message)) core))
       ram other (statuses-moved statuses) agree
-  still-event (flagsWrite flags) =
+  still-event (setFlags flags) =
       still (core .message) (withFlags flags core) ram other statuses agree
 
 -- ---- related cards

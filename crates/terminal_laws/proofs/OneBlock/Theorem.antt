@@ -20,7 +20,7 @@ use Rattle.terminal.specs.Machine.{step, run}
 use Rattle.terminal_laws.specs.OneBlock.{
   SameAfter,
   Calm,
-  Settled,
+  BothOver,
   Spared,
   ThatBlock,
   BrokenMessage,
@@ -49,10 +49,10 @@ module _ {Spent : Block → Type 0} {before : Bool} (start start′ : Card) (mes
   pub one-block-related : start .core .message ≡ Open message
       → kindOf (message .command) ≡ Receive → Spent (message .block)
       → Calm one start → Calm two start′
-      → Settled (run one start) (run two start′) after → Spared Spent after (run one start)
+      → BothOver (run one start) (run two start′) after → Spared Spent after (run one start)
       → SameAfter Spent after (run one start) (run two start′)
   unfolding withStatus
-  one-block-related is receives spent calm calm′ settled spared =
+  one-block-related is receives spent calm calm′ both-over spared =
       let is′ : start′ .core .message ≡ Open message =
       ap (λ (core : Core). core .message) (related .core) ∙ is in
       let span = span-run start message receives spent one calm (begins start message is) in
@@ -62,7 +62,7 @@ module _ {Spent : Block → Type 0} {before : Bool} (start start′ : Card) (mes
             related-alike (both-gone start start′ message related span span′ idle idle′);
         later =
             meet-later after
-            (stretches-meet start start′ message related receives spent after span span′ settled
+            (stretches-meet start start′ message related receives spent after span span′ both-over
             spared)
             spared;
       }
@@ -84,4 +84,4 @@ one-block old command one two after broken =
     one-block-related {before = false} start start held (related-self start) one two after is
     (broken .receives)
     (subst (λ (message : Message). ThatBlock message (held .block)) (sym is) refl)
-    (broken .calm-one) (broken .calm-two) (broken .settled) (broken .spared)
+    (broken .calm-one) (broken .calm-two) (broken .both-over) (broken .spared)

@@ -8,7 +8,7 @@ use Rattle.card.specs.declared.place.Block.{Block}
 use Rattle.terminal.specs.State.{Card}
 use Rattle.terminal.specs.Event.{Event}
 use Rattle.terminal.specs.Machine.{step}
-use Rattle.terminal_laws.specs.OneBlock.{Settled, closed, superseded, Spared, BrokenMessage}
+use Rattle.terminal_laws.specs.OneBlock.{BothOver, closed, superseded, Spared, BrokenMessage}
 use Rattle.recording.specs.Seen.{nothingSeen}
 use Rattle.tray.specs.Happening.{Happening, setup}
 use Rattle.tray.specs.Told.{Tells, CutTelling}
@@ -19,10 +19,10 @@ use Rattle.tray.proofs.OneBlock.Theorem.{one-block-recordings}
 
 -- ---- what is asked of all later events is asked of the first ones
 
-settled-sooner : {here there : Card} (told : Event) (now rest : List Event)
-    → Settled here there ((told ∷ now) ++ rest) → Settled here there (told ∷ now)
-settled-sooner told now rest (closed idle idle′) = closed idle idle′
-settled-sooner _ now rest (superseded command opens loose) = superseded command opens loose
+both-over-sooner : {here there : Card} (told : Event) (now rest : List Event)
+    → BothOver here there ((told ∷ now) ++ rest) → BothOver here there (told ∷ now)
+both-over-sooner told now rest (closed idle idle′) = closed idle idle′
+both-over-sooner _ now rest (superseded command opens loose) = superseded command opens loose
 
 spared-sooner : (Spent : Block → Type 0) (now rest : List Event) (old : Card)
     → Spared Spent (now ++ rest) old → Spared Spent now old
@@ -40,7 +40,7 @@ broken-sooner old heard one two told now rest broken =
       opens = broken .opens;
       calm-one = broken .calm-one;
       calm-two = broken .calm-two;
-      settled = settled-sooner told now rest (broken .settled);
+      both-over = both-over-sooner told now rest (broken .both-over);
       spared = spared-sooner _ (told ∷ now) rest _ (broken .spared);
     }
 

@@ -6,7 +6,7 @@ use Rattle.card.specs.declared.place.Block.{Block}
 use Rattle.terminal.specs.State.{Card}
 use Rattle.terminal.specs.Event.{Event, word}
 use Rattle.terminal.specs.Machine.{step, run}
-use Rattle.terminal_laws.specs.OneBlock.{Alike, Later, SameAfter, Settled, closed, superseded}
+use Rattle.terminal_laws.specs.OneBlock.{Alike, Later, SameAfter, BothOver, closed, superseded}
 
 module _ (Spent : Block → Type 0) where
   -- cards that are alike before the later events are alike after them
@@ -22,7 +22,7 @@ module _ (Spent : Block → Type 0) where
   -- before them they are where both messages have closed; else there is a later event, and after
   -- the first of them they are
   pub left-alike : (later : List Event) (here there : Card)
-      → Settled here there later → SameAfter Spent later here there
+      → BothOver here there later → SameAfter Spent later here there
       → Alike Spent (run later here) (run later there)
   unfolding Later run
   left-alike later here there (closed idle idle′) same-after =

@@ -11,7 +11,7 @@ use Rattle.bus.specs.declared.word.Word.{Word}
 use Rattle.terminal.specs.State.{Card}
 use Rattle.terminal.specs.Event.{Event, word}
 use Rattle.terminal.specs.Machine.{run}
-use Rattle.terminal_laws.specs.OneBlock.{Alike, SameAfter, Settled}
+use Rattle.terminal_laws.specs.OneBlock.{Alike, SameAfter, BothOver}
 use Rattle.terminal_laws.proofs.OneBlock.Theorem.{one-block}
 use Rattle.recording.specs.Seen.{nothingSeen, setupSeen}
 use Rattle.tray.specs.Happening.{Happening, setup, event}
@@ -80,7 +80,7 @@ module _ (ram : List ℕ) (station table flags : ℕ) (one two : List ℕ) (earl
       let held : SameAfter Spent later here there =
       rw (at-one, at-two, run-of-append earlier (word heard ∷ []) start)
       (one-block met heard told-one told-two later broken) in
-      let settled : Settled here there later = rw (at-one, at-two) (broken .settled) in
+      let both-over : BothOver here there later = rw (at-one, at-two) (broken .both-over) in
       let run-one =
       runs-to ram station table flags one (upTo earlier heard told-one) later
       (recordings .one-accepted) in
@@ -92,7 +92,7 @@ module _ (ram : List ℕ) (station table flags : ℕ) (one two : List ℕ) (earl
       rw (
         run-of-append (upTo earlier heard told-one) later start,
         run-of-append (upTo earlier heard told-two) later start,
-      ) (left-alike Spent later here there settled held) in
+      ) (left-alike Spent later here there both-over held) in
       record {
         run-one = run-one;
         run-two = run-two;

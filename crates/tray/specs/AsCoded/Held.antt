@@ -11,13 +11,13 @@ use Rattle.recording.specs.declared.field.Field.{Field}
 use Rattle.recording.specs.declared.field.Field.the-variants.{HostWrite}
 use Rattle.recording.specs.Bytes.{bytesLeft}
 use Rattle.recording.specs.Seen.{nothingSeen}
-use Rattle.tray.specs.declared.run.Run.{Run}
-use Rattle.tray.specs.declared.window.Ran.{Ran}
+use Rattle.tray.specs.declared.run.Tray.{Tray as HeldTray}
+use Rattle.tray.specs.declared.window.Passed.{Passed as HeldPassed}
 use Rattle.tray.specs.Run.{Tray}
 use Rattle.tray.specs.AsCoded.Window.{Passed}
 
 -- the queue's places and the RAM are lent
-abbrev pub trayOf : Run → List ℕ → List ℕ → Tray
+abbrev pub trayOf : HeldTray → List ℕ → List ℕ → Tray
 trayOf run places ram =
     record {
       seen = run .seen;
@@ -27,8 +27,8 @@ trayOf run places ram =
     }
 
 -- before the first field, over any memory: the core is of no station
-unfoldable pub runAtStart : Run
-runAtStart =
+unfoldable pub heldAtStart : HeldTray
+heldAtStart =
     record {
       held = record { core = coreAtSetup allStations (theBlock 0) 0; ring = ringOf 0 0 false };
       seen = nothingSeen;
@@ -37,10 +37,10 @@ runAtStart =
     }
 
 -- so is the buffer
-abbrev pub passedOf : Ran → List ℕ → List ℕ → List ℕ → Passed
+abbrev pub passedOf : HeldPassed → List ℕ → List ℕ → List ℕ → Passed
 passedOf ran places ram out =
     record {
-      tray = trayOf (ran .run) places ram;
+      tray = trayOf (ran .tray) places ram;
       at = ran .at;
       put = ran .put;
       out = out;

@@ -12,8 +12,8 @@ use Rattle.tray.specs.Run.{Tray}
 use Rattle.tray.specs.AsCoded.Window.{Passed, windowRun}
 
 -- what a call prints
-abbrev pub linesOf : Passed → List ℕ
-linesOf call = take (call .put) (call .out)
+abbrev pub linesPut : Passed → List ℕ
+linesPut call = take (call .put) (call .out)
 
 -- `Streamed start ended input text old window`: from `start` on a program has read this input,
 -- which has ended or not, and has printed this text; it has come as far as `old`, and these bytes
@@ -32,7 +32,7 @@ pub data Streamed (start : Tray) : Bool → List ℕ → List ℕ → Tray → L
   calls : {ended : Bool} {input text : List ℕ} {old : Tray} {window : List ℕ} (out : List ℕ)
       → Streamed start ended input text old window
       → windowRun old window ended out .stop ≢ Over
-      → Streamed start ended input (text ++ linesOf (windowRun old window ended out))
+      → Streamed start ended input (text ++ linesPut (windowRun old window ended out))
       (windowRun old window ended out .tray)
       (drop (windowRun old window ended out .at) window)
 
@@ -45,5 +45,5 @@ pub record Finished (start : Tray) (input text : List ℕ) (new : Tray) : Type 0
   pub out : List ℕ
   pub streamed : Streamed start ended input before old window
   pub is-over : windowRun old window ended out .stop ≡ Over
-  pub is-text : text ≡ before ++ linesOf (windowRun old window ended out)
+  pub is-text : text ≡ before ++ linesPut (windowRun old window ended out)
   pub is-new : new ≡ windowRun old window ended out .tray

@@ -18,7 +18,7 @@ use Rattle.recording.specs.Bytes.{timeAt}
 use Rattle.recording.specs.AsCoded.Found.{wordFound}
 use Rattle.lines.specs.Written.{lineRoom, mostWords}
 use Rattle.tray.specs.declared.row.Reach.{Reach}
-use Rattle.tray.specs.declared.window.Ran.{Ran}
+use Rattle.tray.specs.declared.window.Passed.{Passed as HeldPassed}
 use Rattle.tray.specs.declared.window.Stop.the-variants.{Going}
 use Rattle.tray.specs.Run.{counted}
 use Rattle.tray.specs.AsCoded.Window.{turns}
@@ -82,19 +82,19 @@ mayTakeRow seen room most row =
     seen .setup && leb lineRoom room && ltb mostWords most && ltb (row .taken) (row .wanted)
 
 -- the run behind a row of so many words for its open message
-unfoldable pub ranAfter : Ran → OpenMessage → Reach → ℕ → Ran
-ranAfter old message end words =
-    let held = old .run .held in
+unfoldable pub passedAfter : HeldPassed → OpenMessage → Reach → ℕ → HeldPassed
+passedAfter old message end words =
+    let held = old .tray .held in
     record {
-      run =
+      tray =
           record {
             held = record {
               core = withTaken (end .row .taken) message (held .core);
               ring = held .ring;
             };
-            seen = old .run .seen;
-            fields = counted (old .run .fields + words);
-            offset = counted (old .run .offset + 10 * words);
+            seen = old .tray .seen;
+            fields = counted (old .tray .fields + words);
+            offset = counted (old .tray .offset + 10 * words);
           };
       at = end .at;
       put = old .put;
@@ -104,8 +104,8 @@ ranAfter old message end words =
 -- ---- a row is as many turns
 
 -- the turns that are left lead where all of them led, and one is left at least
-pub record RowTaken (window : List ℕ) (room most : ℕ) (old : Ran) (ram : List ℕ)
-    (left : ℕ) (new : Ran) (ram′ : List ℕ) : Type 0 where
+pub record RowTaken (window : List ℕ) (room most : ℕ) (old : HeldPassed) (ram : List ℕ)
+    (left : ℕ) (new : HeldPassed) (ram′ : List ℕ) : Type 0 where
   pub fewer : left ≤ most
   pub some-left : 0 < most → 0 < left
   pub going : new .stop ≡ old .stop

@@ -1,6 +1,6 @@
--- `actions::Terminal::setup` meets its contract: refused, or settled. Assumes nothing.
+-- `actions::Terminal::setup` meets its contract: refused, or done. Assumes nothing.
 use borrow.Author.Needs.{needs}
-use Rattle.actions.proofs.ActionLaws.{settling}
+use Rattle.actions.proofs.ActionLaws.{setting-up}
 use Rattle.actions.proofs.Terminal.setup.Statement.{statement}
 use Rattle.actions.proofs.Terminal.setup.Tie as tie
 
@@ -11,13 +11,13 @@ at-setup-requires : tie.Need-at-setup-requires
 at-setup-requires c κs = search needs
 
 returns : tie.Need-returns
-returns c = search (needs, settling)
+returns c = search (needs, setting-up)
 
 at-setup-requires-2 : tie.Need-at-setup-requires-2
 at-setup-requires-2 c κs = search needs
 
 returns-2 : tie.Need-returns-2
-returns-2 c = search (needs, settling)
+returns-2 c = search (needs, setting-up)
 
 pub setup-spec : {M : Type 1} → statement M
 setup-spec =

@@ -8,8 +8,8 @@ use Rattle.stream.proofs.Pump.turn.Tie as tie
 call-requires : tie.Need-call-requires
 call-requires c κs = search needs
 
-settle-requires : tie.Need-settle-requires
-settle-requires c κs =
+after-call-requires : tie.Need-after-call-requires
+after-call-requires c κs =
     let after-call = c .before .before .before .before .before .before .before .before in
     stepped-room (after-call .call .ensures) (omega arith)
 
@@ -24,12 +24,12 @@ same-length-3 c = search needs
 
 returns : tie.Need-returns
 returns c =
-    let after-settle = c .before .before in
+    let behind-call = c .before .before in
     let after-call =
-    after-settle .before .before .before .before .before .before .before .before .before in
-    turned-so _ _ _ _ _ _ _ _ _ _ _ (after-call .call .ensures) (after-settle .settle .ensures)
+    behind-call .before .before .before .before .before .before .before .before .before in
+    turned-so _ _ _ _ _ _ _ _ _ _ _ (after-call .call .ensures) (behind-call .after-call .ensures)
 
 pub turn-spec : {M : Type 1} → statement M
 turn-spec =
     tie.close
-    (tie.spec call-requires settle-requires same-length same-length-2 same-length-3 returns)
+    (tie.spec call-requires after-call-requires same-length same-length-2 same-length-3 returns)

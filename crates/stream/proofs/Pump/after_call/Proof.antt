@@ -1,9 +1,9 @@
--- `stream::Pump::settle` meets its contract: a law for each way that a call stops. Assumes
+-- `stream::Pump::after_call` meets its contract: a law for each way that a call stops. Assumes
 -- nothing.
 use borrow.Author.Needs.{needs}
 use Rattle.stream.proofs.CallLaws.{room-there, settling}
-use Rattle.stream.proofs.Pump.settle.Statement.{statement}
-use Rattle.stream.proofs.Pump.settle.Tie as tie
+use Rattle.stream.proofs.Pump.after_call.Statement.{statement}
+use Rattle.stream.proofs.Pump.after_call.Tie as tie
 
 returns : tie.Need-returns
 returns c = search (needs, settling) depth 9
@@ -41,8 +41,8 @@ same-length c = search needs
 returns-5 : tie.Need-returns-5
 returns-5 c = search (needs, settling) depth 9
 
-pub settle-spec : {M : Type 1} → statement M
-settle-spec =
+pub after-call-spec : {M : Type 1} → statement M
+after-call-spec =
     tie.close
     (tie.spec
     returns
