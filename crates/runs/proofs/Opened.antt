@@ -3,6 +3,7 @@
 use mathlib.Core.Path.{_≡_, refl}
 use mathlib.Core.Bool.{true, false}
 use mathlib.Core.List.{List, [], _∷_, map}
+use Rattle.card.specs.Memory.{theBlock}
 use Rattle.message.specs.declared.state.Stage.{Stage}
 use Rattle.message.specs.declared.state.Stage.the-variants.{Data, SecondCommand}
 use Rattle.message.specs.declared.state.Second.{Second}
@@ -29,8 +30,8 @@ opened second stage =
     record {
       command = 0x2862;
       line = false;
-      block = 2;
-      table = 1;
+      block = theBlock 2;
+      table = theBlock 1;
       moved = false;
       busy = false;
       queued = true;

@@ -6,6 +6,7 @@ use mathlib.Core.List.{List, _++_}
 use Prim.Native.Nat.{ℕ, _≤_}
 use native.Mathlib.Omega.{arith}
 use lib.ListN.{length}
+use Rattle.rules.proofs.Clash.{clash}
 use Rattle.tray.specs.declared.window.Stop.the-variants.{Over}
 use Rattle.tray.specs.Run.{Tray, trayAtStart, whole, wholeFrom}
 use Rattle.tray.specs.AsCoded.Pieces.{linesPut, Streamed, begins, reads, ends, calls, Finished}
