@@ -53,6 +53,13 @@ pub(crate) fn put_state(out: &mut [u8], at: usize, core: Core, ring: Ring) -> us
     put_message(out, waiting, message)
 }
 
+fn put_run(out: &mut [u8], at: usize, run: Run) -> usize {
+    let held = run.held;
+    let core = held.core;
+    let ring = held.ring;
+    put_state(out, at, core, ring)
+}
+
 fn put_cell(out: &mut [u8], at: usize, address: u16, word: u16) -> usize {
     if word == 0 {
         return at;
@@ -83,10 +90,7 @@ fn run_recording(recording: &[u8], out: &mut [u8]) -> Sizes {
     let mut ram: [u16; 16384] = [0; 16384];
     let ran = tray::run_window(Run::at_start(), &mut places, &mut ram, recording, out, true);
     let run = ran.run;
-    let held = run.held;
-    let core = held.core;
-    let ring = held.ring;
-    let next = put_state(out, ran.put, core, ring);
+    let next = put_run(out, ran.put, run);
     Sizes {
         lines: ran.put,
         all: put_cells(out, next, &ram),
