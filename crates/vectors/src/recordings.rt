@@ -78,37 +78,25 @@ fn put_cells(out: &mut [u8], at: usize, ram: &[u16; 16384]) -> usize {
 
 // ---- a case
 
-// How many bytes of lines a run printed, and how many bytes there are with what it leaves.
-struct Sizes {
-    lines: usize,
-    all: usize,
-}
-
-// Runs a recording on a new card. Puts its lines and what it leaves.
-fn run_recording(recording: &[u8], out: &mut [u8]) -> Sizes {
+// Runs a recording on a new card. Puts its lines and, behind them, what it leaves.
+fn run_recording(recording: &[u8], out: &mut [u8]) -> usize {
     let mut places: [u16; 256] = [0; 256];
     let mut ram: [u16; 16384] = [0; 16384];
     let ran = tray::run_window(Run::at_start(), &mut places, &mut ram, recording, out, true);
     let run = ran.run;
     let next = put_run(out, ran.put, run);
-    Sizes {
-        lines: ran.put,
-        all: put_cells(out, next, &ram),
-    }
+    put_cells(out, next, &ram)
 }
 
 // Whether a recording prints the lines of a text, and leaves what it says behind them.
 fn leaves(recording: &[u8], text: &[u8]) -> bool {
     let mut bytes = io::large_buffer();
-    let sizes = run_recording(recording, &mut bytes);
+    let size = run_recording(recording, &mut bytes);
     let end = notation::place_of(text, 0, b'=');
     let mut wanted = io::large_buffer();
     let count = notation::read_hex(notation::part(text, end, text.len()), &mut wanted, 0);
-    let state = notation::part(&bytes, sizes.lines, sizes.all);
-    check::same(
-        notation::part(&bytes, 0, sizes.lines),
-        notation::part(text, 0, end),
-    )
+    let state = notation::part(&bytes, end, size);
+    check::same(notation::part(&bytes, 0, end), notation::part(text, 0, end))
         & check::same(state, notation::part(&wanted, 0, count))
 }
 
