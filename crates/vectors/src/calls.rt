@@ -17,6 +17,7 @@ use actions::Terminal;
 use card::sent;
 use check;
 use io;
+use terminal::state::Held;
 
 // ---- the actions
 
@@ -121,7 +122,11 @@ fn put_terminal(out: &mut [u8], terminal: Terminal) -> usize {
     let ring = queue.ring;
     let table = notation::put_pair(out, 0, core.station, core.table);
     let start = notation::put_pair(out, table, core.flags, ring.start);
-    recordings::put_state(out, start, core, ring)
+    let held = Held {
+        core: core,
+        ring: ring,
+    };
+    recordings::put_state(out, start, held)
 }
 
 // Whether a terminal is as wanted, and its queue's places are those of the row.

@@ -7,6 +7,7 @@ use message::state::Message;
 use message::state::Stage;
 use queue::Ring;
 use terminal::state::Core;
+use terminal::state::Held;
 use tray;
 use tray::Run;
 
@@ -45,19 +46,14 @@ fn put_message(out: &mut [u8], at: usize, message: Message) -> usize {
     }
 }
 
-pub(crate) fn put_state(out: &mut [u8], at: usize, core: Core, ring: Ring) -> usize {
+pub(crate) fn put_state(out: &mut [u8], at: usize, held: Held) -> usize {
+    let core = held.core;
+    let ring = held.ring;
     let message = core.message;
     let words = notation::put_pair(out, at, core.status, core.last);
     let marks = notation::put_byte(out, words, marks_of(core, ring));
     let waiting = notation::put_byte(out, marks, (ring.count % 256) as u8);
     put_message(out, waiting, message)
-}
-
-fn put_run(out: &mut [u8], at: usize, run: Run) -> usize {
-    let held = run.held;
-    let core = held.core;
-    let ring = held.ring;
-    put_state(out, at, core, ring)
 }
 
 fn put_cell(out: &mut [u8], at: usize, address: u16, word: u16) -> usize {
@@ -84,7 +80,8 @@ fn run_recording(recording: &[u8], out: &mut [u8]) -> usize {
     let mut ram: [u16; 16384] = [0; 16384];
     let ran = tray::run_window(Run::at_start(), &mut places, &mut ram, recording, out, true);
     let run = ran.run;
-    let next = put_run(out, ran.put, run);
+    let held = run.held;
+    let next = put_state(out, ran.put, held);
     put_cells(out, next, &ram)
 }
 
