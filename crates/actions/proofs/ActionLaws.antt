@@ -2,9 +2,9 @@
 use mathlib.Core.Path.{_≡_, refl, sym, ap, _∙_}
 use mathlib.Core.Bool.{Bool, true, false, cond, not, _&&_}
 use mathlib.Core.List.{List, []}
-use Prim.Native.Nat.{ℕ, suc, _+_}
+use Prim.Native.Nat.{ℕ, suc}
 use native.Mathlib.Omega.{arith}
-use lib.Dec.{eqb, leb}
+use lib.Dec.{eqb}
 use lib.ListN.{length}
 use lib.Seq.{sets}
 use borrow.Author.Tests.{eq-eqb, ne-eqb}
@@ -185,7 +185,8 @@ module _ (given : Terminal) (ram : List ℕ) where
 
       go : (whole fit order : Bool) → memoryRefusal whole fit true ≡ 0
           → answered (cond whole
-          (cond order (host.wrote 0 (sets ram address words)) (host.wrote 8 ram)) (host.wrote 1 ram))
+          (cond order (host.wrote 0 (sets ram address words)) (host.wrote 8 ram))
+          (host.wrote 1 ram))
           ≡ cond (not whole) (after 1 (replied Silent) over-memory)
           (cond (not fit) (after 4 (replied Silent) over-memory)
           (cond (not order) (after 8 (replied Silent) over-memory)

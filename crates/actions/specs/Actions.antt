@@ -2,7 +2,7 @@
 -- number and leaves everything as it was given. Definitions only. Assumes nothing.
 use mathlib.Core.Bool.{Bool, cond, not}
 use mathlib.Core.List.{List, []}
-use Prim.Native.Nat.{ℕ, _+_}
+use Prim.Native.Nat.{ℕ}
 use lib.Dec.{eqb}
 use lib.ListN.{length}
 use Rattle.bus.specs.Limits.{allStations, isStation, areFlags, areMarks, isLine}

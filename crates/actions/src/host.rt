@@ -1,7 +1,6 @@
 // What the host does.
 ghost use mathlib.Core.Path.{_≡_};
 ghost use Rattle.terminal.specs.declared.state.Reply.the-variants.{Silent};
-ghost use Rattle.terminal.specs.State.{card};
 ghost use Rattle.terminal.specs.Event.{replied, queueWord};
 ghost use Rattle.actions.specs.Actions.{
   after,

@@ -10,7 +10,7 @@ use lib.ListN.{length, getD, take, drop, length-take, length-drop}
 use lib.Seq.{getD-take, getD-drop, ext-getD}
 use Rattle.card.specs.declared.place.Block.{Block}
 use Rattle.card.specs.declared.place.Cell.{Cell}
-use Rattle.card.specs.Memory.{blockCells, theCell, wordAddress, cellAt, withCell}
+use Rattle.card.specs.Memory.{blockCells, theCell, wordAddress, cellAt, withCell, withCells}
 use Rattle.card.proofs.MemoryLaws.{length-with-cell, cell-of-with-cell}
 use Rattle.card.proofs.Frame.{cell-keeps}
 
@@ -27,17 +27,12 @@ module _ (ram : List ℕ) (block : Block) (cell : Cell) (word : ℕ) where
 
 -- ---- several words, one after the other from a cell on
 
-unfoldable pub withCells : List ℕ → Block → ℕ → List ℕ → List ℕ
-withCells ram block cell [] = ram
-withCells ram block cell (word ∷ words) =
-    withCells (withCell ram block (theCell cell) word) block (suc cell) words
-
 pub length-with-cells : (words ram : List ℕ) (block : Block) (cell : ℕ)
     → length (withCells ram block cell words) ≡ length ram
 unfolding withCells
 length-with-cells [] ram block cell = refl
 length-with-cells (word ∷ words) ram block cell =
-    length-with-cells words (withCell ram block (theCell cell) word) block (suc cell)
+    length-with-cells words (withCell ram block (theCell cell) word) block (cell + 1)
     ∙ length-with-cell ram block (theCell cell) word
 
 -- the cells before the first are kept
@@ -47,41 +42,49 @@ pub cell-before-cells : (words ram : List ℕ) (block : Block) (cell before : �
 unfolding withCells
 cell-before-cells [] ram block cell before less = refl
 cell-before-cells (word ∷ words) ram block cell before less =
-    cell-before-cells words (withCell ram block (theCell cell) word) block (suc cell) before (omega arith)
+    cell-before-cells words (withCell ram block (theCell cell) word) block (cell + 1) before
+    (omega arith)
     ∙ cell-beside ram block (theCell cell) word (theCell before) (λ same. omega arith)
 
 -- each word stands in its cell
-pub cell-of-with-cells : (words ram : List ℕ) (block : Block) (cell place : ℕ) → place < length words
-    → cell + length words ≤ blockCells → wordAddress block (theCell (cell + length words)) ≤ length ram
+pub cell-of-with-cells : (words ram : List ℕ) (block : Block) (cell place : ℕ)
+    → place < length words → cell + length words ≤ blockCells
+    → wordAddress block (theCell (cell + length words)) ≤ length ram
     → cellAt (withCells ram block cell words) block (theCell (cell + place)) ≡ getD words place 0
 unfolding withCells
 cell-of-with-cells [] ram block cell place inside few in-memory = absurd (omega arith)
 cell-of-with-cells (word ∷ words) ram block cell zero inside few in-memory =
     rw add-zero
-    (cell-before-cells words (withCell ram block (theCell cell) word) block (suc cell) cell (omega arith)
+    (cell-before-cells words (withCell ram block (theCell cell) word) block (cell + 1) cell
+    (omega arith)
     ∙ cell-of-with-cell ram block (theCell cell) word (omega arith) (omega arith))
 cell-of-with-cells (word ∷ words) ram block cell (suc place) inside few in-memory =
-    let next : cell + suc place ≡ suc cell + place = omega arith in
+    let next : cell + suc place ≡ cell + 1 + place = omega arith in
     rw next
-    (cell-of-with-cells words (withCell ram block (theCell cell) word) block (suc cell) place (omega arith)
+    (cell-of-with-cells words (withCell ram block (theCell cell) word) block (cell + 1) place
+    (omega arith)
     (omega arith) (rw (length-with-cell ram block (theCell cell) word) (omega arith)))
 
 -- ---- a part of memory, from a block's cell 0 on
 
 -- each of its words is a cell's
 pub cell-of-part : (ram : List ℕ) (block : Block) (count cell : ℕ) → cell < count
-    → getD (take count (drop (wordAddress block (theCell 0)) ram)) cell 0 ≡ cellAt ram block (theCell cell)
+    → getD (take count (drop (wordAddress block (theCell 0)) ram)) cell 0
+    ≡ cellAt ram block (theCell cell)
 unfolding cellAt
 cell-of-part ram block count cell inside =
-    let at : wordAddress block (theCell 0) + cell ≡ wordAddress block (theCell cell) = omega arith in
+    let at : wordAddress block (theCell 0) + cell ≡ wordAddress block (theCell cell) =
+    omega arith in
     getD-take count (drop (wordAddress block (theCell 0)) ram) cell 0 inside
     ∙ getD-drop (wordAddress block (theCell 0)) ram cell 0
     ∙ ap (λ (address : ℕ). getD ram address 0) at
 
 -- the same words in the cells make the same part
-pub part-of-same-cells : (ram other : List ℕ) (block : Block) (count : ℕ) → length ram ≡ length other
+pub part-of-same-cells : (ram other : List ℕ) (block : Block) (count : ℕ)
+    → length ram ≡ length other
     → ((cell : Cell) → cell .0 < count → cellAt ram block cell ≡ cellAt other block cell)
-    → take count (drop (wordAddress block (theCell 0)) ram) ≡ take count (drop (wordAddress block (theCell 0)) other)
+    → take count (drop (wordAddress block (theCell 0)) ram)
+    ≡ take count (drop (wordAddress block (theCell 0)) other)
 part-of-same-cells ram other block count long same =
     let start = wordAddress block (theCell 0) in
     ext-getD 0 (take count (drop start ram)) (take count (drop start other))

@@ -1,11 +1,9 @@
 -- Each public contract of the crate allows one outcome alone: one result, and one content of every
 -- cell that was lent. Assumes nothing.
-use mathlib.Core.Path.{ap}
 use mathlib.Core.List.{List}
 use Prim.Native.Nat.{ℕ}
 use denote.Ref.{now}
 use Rattle.rules.proofs.Determined.{Determined, DeterminedAs, same}
-use Rattle.card.specs.declared.place.Block.{Block}
 use Rattle.card.specs.Host.{Wrote, wrote}
 use Rattle.card.proofs.place.word_address.Kinds as word-address-kinds
 use Rattle.card.proofs.place.word_address.Reads as word-address-reads

@@ -1,7 +1,7 @@
 -- The laws of `specs/Host.antt`, and the loop of `write_words`: what is left to store takes memory
 -- as it is to memory as it is to be. Assumes nothing.
-use mathlib.Core.Path.{_≡_, refl, sym, ap, _∙_}
-use mathlib.Core.List.{List, [], _∷_}
+use mathlib.Core.Path.{_≡_, sym, ap, _∙_}
+use mathlib.Core.List.{List}
 use Prim.Native.Nat.{ℕ, _+_, _≤_, _<_}
 use native.Mathlib.Nat.{add-zero}
 use native.Mathlib.Numerals.{add-one}
@@ -11,7 +11,7 @@ use lib.ListN.{length, getD, set, drop, drop-of-length-le, length-set}
 use lib.Seq.{sets, drop-cons, set-out}
 use borrow.Author.Tests.{le-leb}
 use Rattle.card.specs.Memory.{wordsIn}
-use Rattle.card.specs.Host.{Wrote, wrote, mostWritten, isWrite}
+use Rattle.card.specs.Host.{wrote, mostWritten, isWrite}
 
 -- ---- one word
 

@@ -1,6 +1,6 @@
--- A block that is lent: its part of memory, as far as memory has it. What is wrote to the lent
--- cells, which are a memory of one block, is wrote to that block of the whole. Assumes nothing.
-use mathlib.Core.Path.{_≡_, sym, ap, _∙_}
+-- A block that is lent: its part of memory, as far as memory has it. What is done to the lent
+-- cells, which are a memory of one block, is done to that block of the whole. Assumes nothing.
+use mathlib.Core.Path.{_≡_, sym, _∙_}
 use mathlib.Core.List.{List}
 use Prim.Native.Nat.{ℕ, _+_, _-_, _/_, _%_, _≤_, _<_, min}
 use native.Mathlib.Decide.{decLt}

@@ -2,7 +2,7 @@
 --     Frame         what a write leaves alone, and the chain rule's ground
 --     MemoryLaws    addresses; a store and a read on each way that the code takes
 --     CellLaws      words stored in cells one after the other, and the words of a part
---     LentBlock     what is wrote to a lent block is wrote to that block of the whole
+--     LentBlock     what is done to a lent block is done to that block of the whole
 --     TimeLaws      elapsed time, added to the earlier stamp
 --     HostLaws      the host's write, word by word
 --     SentLaws      the part of words to send

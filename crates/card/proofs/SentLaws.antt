@@ -78,13 +78,18 @@ module _ (ram : List ℕ) (block : Block) (count number : ℕ)
 
   module _ (start : ℕ) where
     pub part-ends : number ≡ 0 → start ≡ wordAddress block (theCell 0) → start + count ≤ length ram
-    part-ends none starts = omega (arith, shown cardBlocks (length ram) block count (sym asked ∙ none))
+    part-ends none starts =
+        omega (arith, shown cardBlocks (length ram) block count (sym asked ∙ none))
 
     pub part-shown : number ≡ 0 → start ≡ wordAddress block (theCell 0)
         → take (start + count - start) (drop start ram) ≡ sentPart ram block count
     unfolding sentPart
     part-shown none starts =
         let long : start + count - start ≡ count = omega arith in
-        rw (long, starts, eq-eqb (sentRefusal cardBlocks (length ram) block count) 0 (sym asked ∙ none))
+        rw (
+          long,
+          starts,
+          eq-eqb (sentRefusal cardBlocks (length ram) block count) 0 (sym asked ∙ none),
+        )
 
 pub ruleset parts = (part-refused, part-ends, part-shown)

@@ -1,7 +1,7 @@
 -- Card memory as the list of its words, and the cells of its blocks. Where a cell lies and what a
 -- store to it does hangs on no size of card. Definitions only. Assumes nothing.
 use mathlib.Core.Bool.{Bool, cond}
-use mathlib.Core.List.{List}
+use mathlib.Core.List.{List, [], _∷_}
 use Prim.Native.Nat.{ℕ, _+_, _*_, _/_, _%_}
 use lib.Dec.{ltb}
 use lib.ListN.{getD, set}
@@ -52,6 +52,12 @@ cellAt ram block cell = getD ram (wordAddress block cell) 0
 unfoldable pub withCell : List ℕ → Block → Cell → ℕ → List ℕ
 withCell ram block cell word =
     cond (ltb (cell .0) blockCells) (set ram (wordAddress block cell) word) ram
+
+-- memory with words stored in a block, one after the other from a cell on
+unfoldable pub withCells : List ℕ → Block → ℕ → List ℕ → List ℕ
+withCells ram block cell [] = ram
+withCells ram block cell (word ∷ words) =
+    withCells (withCell ram block (theCell cell) word) block (cell + 1) words
 
 -- memory with a block's service cells written: 58 state word, 59 and 60 closing time by halves,
 -- 61 ticks

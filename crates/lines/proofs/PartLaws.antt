@@ -8,7 +8,6 @@ use native.Mathlib.Numerals.{add-one}
 use native.Mathlib.Omega.{arith}
 use lib.ListN.{length, set, length-set, length-append}
 use lib.Seq.{sets}
-use borrow.Author.Tests.{lt-ltb, le-ltb}
 use Rattle.rules.proofs.LastArm.{NoneBelow, none-below}
 use Rattle.lines.specs.Digits.{hexDigit, hexByte, hexWord, decimalBy}
 use Rattle.lines.specs.Lines.{blank}

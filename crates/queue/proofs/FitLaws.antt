@@ -80,7 +80,8 @@ count-of-join count fit = go (ltb count queuePlaces) refl
 
 -- a place changes where there is room
 fit-places-of-join : (blocks : ℕ) (room : Bool) (places : List ℕ) (place block : ℕ) → block < blocks
-    → fitPlaces blocks places ≡ true → fitPlaces blocks (cond room (set places place block) places) ≡ true
+    → fitPlaces blocks places ≡ true
+    → fitPlaces blocks (cond room (set places place block) places) ≡ true
 fit-places-of-join blocks true places place block small fit =
     fit-places-of-set blocks places place block small fit
 fit-places-of-join blocks false places place block small fit = fit

@@ -11,7 +11,6 @@ use lib.Seq.{drop-cons}
 use borrow.Author.Tests.{lt-ltb, le-ltb, eq-eqb, ne-eqb}
 use Rattle.bits.specs.Bit.{Weighed, weightOf}
 use Rattle.queue.specs.declared.Ring.{Ring}
-use Rattle.queue.specs.declared.Queue.{Queue}
 use Rattle.queue.specs.declared.RingRead.{RingRead}
 use Rattle.queue.specs.Queue.{
   queuePlaces,

@@ -80,8 +80,8 @@ impl Field {
         }
     }
 
-    // Refusals 2, 3 and 8 by what the field holds, in that order, on a card of so many blocks, and 0
-    // for none. One byte cannot spell a table block above 255 today; the test for 3 stands where
+    // Refusals 2, 3 and 8 by what the field holds, in that order, on a card of so many blocks, and
+    // 0 for none. One byte cannot spell a table block above 255 today; the test for 3 stands where
     // document 01's order has it.
     pub(crate) fn refusal(self, blocks: u16) -> u8
         ensures { λ number. ⌜ number ≡ valueRefusal blocks self ⌝ }

@@ -25,8 +25,8 @@ use libc;
 use libc::STDIN_FILENO;
 use libc::STDOUT_FILENO;
 use tray;
-use tray::Tray;
 use tray::Stop;
+use tray::Tray;
 
 // How far a program has come: the run, the bytes in its window, whether the input has ended,
 // whether the program has, and whether by the run's own end with every line taken.

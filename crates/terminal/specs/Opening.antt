@@ -20,8 +20,8 @@ use Rattle.message.specs.Asked.{askedOf}
 abbrev pub busyAt : Asked → ℕ → ℕ → Bool
 busyAt asked flags tableWord = hasBit flags 2 || (asked .block && isBusy tableWord)
 
--- the message that a word opens; `tableWord` is its chain's table word. Busy, block and bit 14 are
--- fixed here
+-- the message that a word opens, over its chain's table word. Busy, block and bit 14 are fixed
+-- here
 unfoldable pub openedMessage : Asked → ℕ → Word → Core → OpenMessage
 openedMessage asked tableWord word core =
     record {
@@ -66,7 +66,8 @@ openedAs word core ram = openedMessage (askedOf (word .value)) (tableWordAt word
 -- the core after it
 abbrev pub openedAt : Word → Core → List ℕ → Core
 openedAt word core ram =
-    openedCore (openedAs word core ram) (askedOf (word .value)) (tableWordAt word core ram) word core
+    openedCore (openedAs word core ram) (askedOf (word .value)) (tableWordAt word core ram)
+    word core
 
 unfoldable pub opening : Word → Card → Card
 opening word old = withCore (openedAt word (old .core) (old .ram)) old

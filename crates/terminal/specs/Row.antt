@@ -2,12 +2,11 @@
 -- hold them, and so many more are taken. Definitions only. Assumes nothing.
 use mathlib.Core.Path.{_≡_}
 use mathlib.Core.Bool.{Bool, true, false}
-use mathlib.Core.List.{List, [], _∷_}
+use mathlib.Core.List.{List, [], _∷_, map}
 use Prim.Native.Nat.{ℕ, _+_}
 use lib.ListN.{length}
 use Rattle.bus.specs.declared.word.Word.{Word}
-use Rattle.card.specs.declared.place.Block.{Block}
-use Rattle.card.specs.Memory.{theCell, withCell}
+use Rattle.card.specs.Memory.{theCell, withCell, withCells}
 use Rattle.message.specs.declared.state.Stage.the-variants.{Data}
 use Rattle.message.specs.declared.state.OpenMessage.{OpenMessage}
 use Rattle.message.specs.declared.state.Message.the-variants.{Open}
@@ -26,17 +25,15 @@ wordStored value taken message old =
     card (withTaken taken message (old .core)) (old .queue)
     (withCell (old .ram) (message .block) (theCell (message .taken)) value)
 
--- memory with a row of words in a block, from a cell on
-unfoldable pub withRow : List ℕ → Block → ℕ → List Word → List ℕ
-withRow ram block cell [] = ram
-withRow ram block cell (heard ∷ more) =
-    withRow (withCell ram block (theCell cell) (heard .value)) block (cell + 1) more
+-- the values of words
+abbrev pub valuesOf : List Word → List ℕ
+valuesOf = map (λ (heard : Word). heard .value)
 
 -- a row of data words is stored
 abbrev pub rowStored : List Word → OpenMessage → Card → Card
 rowStored row message old =
     card (withTaken (message .taken + length row) message (old .core)) (old .queue)
-    (withRow (old .ram) (message .block) (message .taken) row)
+    (withCells (old .ram) (message .block) (message .taken) (valuesOf row))
 
 -- ---- the words
 

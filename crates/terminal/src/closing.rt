@@ -3,7 +3,7 @@ ghost use mathlib.Core.Path.{_≡_};
 ghost use mathlib.Core.Bool.{cond, true, false};
 ghost use lib.Dec.{eqb};
 ghost use Rattle.queue.specs.Queue.{queue};
-ghost use Rattle.terminal.specs.State.{card, holding, cardOf};
+ghost use Rattle.terminal.specs.State.{holding, cardOf};
 ghost use Rattle.terminal.specs.Closing.{
   unlessBusy,
   stateOf,

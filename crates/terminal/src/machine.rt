@@ -1,7 +1,6 @@
 // Words and silences over what a run holds: decided first, then done. These are total: fitness is
 // judged by the actions, and a run that starts fit stays so.
 ghost use mathlib.Core.Path.{_≡_};
-ghost use Rattle.queue.specs.Queue.{queue};
 ghost use Rattle.message.specs.declared.state.Message.the-variants.{Open};
 ghost use Rattle.message.specs.Message.{further};
 ghost use Rattle.terminal.specs.State.{card, withMessage, holding, cardOf};

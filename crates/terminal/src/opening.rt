@@ -107,7 +107,8 @@ fn opened_last(asked: Asked, last: u16, command: u16) -> u16
 
 fn opened_core(asked: Asked, table_word: u16, word: Word, core: Core) -> Core
     ensures { λ opened. ⌜
-        opened ≡ openedCore (openedMessage asked «table_word» word core) asked «table_word» word core
+        opened
+        ≡ openedCore (openedMessage asked «table_word» word core) asked «table_word» word core
         ⌝ }
 {
     let message = opened_message(asked, table_word, word, core);

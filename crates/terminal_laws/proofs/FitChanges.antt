@@ -55,7 +55,7 @@ fit-going-on message ram old fit-message fit =
       queue = fit .queue;
     }
 
--- a command opens a message: its table is the table block, which is fit
+-- a command opens a message: its table block is the card's, which is fit
 pub fit-opening : (word : Word) (old : Card)
     → addressed (old .core .station) (word .value) ≡ true → FitCard old → FitCard (opening word old)
 unfolding opening openedCore withMessage withLast withStatus fitCore

@@ -34,7 +34,8 @@ use Rattle.terminal_laws.proofs.FitParts.{addressed, isLegal, InStage, 
 -- ---- the message that a word opens
 
 -- a table word names one of 256 blocks, and without a block the number is 0
-pub fit-block : (has : Bool) (tableWord : ℕ) → cond has (blockOf tableWord) (theBlock 0) .0 < cardBlocks
+pub fit-block : (has : Bool) (tableWord : ℕ)
+    → cond has (blockOf tableWord) (theBlock 0) .0 < cardBlocks
 fit-block true tableWord = omega arith
 fit-block false tableWord = omega arith
 

@@ -65,7 +65,9 @@ fit-open-parts station message fit =
     record {
       address = first-of-both address block to-block;
       block = ltb-true (message .block .0) cardBlocks (second-of-both address block to-block);
-      table = ltb-true (message .table .0) cardBlocks (second-of-both (address && block) table to-table);
+      table =
+          ltb-true (message .table .0) cardBlocks
+          (second-of-both (address && block) table to-table);
       taken =
           leb-true (message .taken) (asked .takes)
           (second-of-both (address && block && table) taken to-taken);
@@ -124,7 +126,8 @@ fit-core-whole {core} parts =
 
 -- the message that is open in a fit core
 pub open-parts : (core : Core) (message : OpenMessage)
-    → fitCore cardBlocks core ≡ true → core .message ≡ Open message → FitOpen (core .station) message
+    → fitCore cardBlocks core ≡ true → core .message ≡ Open message
+    → FitOpen (core .station) message
 open-parts core message fit is =
     fit-open-parts (core .station) message (rw is at (fit-core-parts core fit .message))
 
@@ -148,7 +151,8 @@ pub fit-card-parts : (old : Card) → fitCard old ≡ true → FitCard old
 fit-card-parts old fit =
     record {
       core = first-of-both (fitCore cardBlocks (old .core)) (fitQueue cardBlocks (old .queue)) fit;
-      queue = second-of-both (fitCore cardBlocks (old .core)) (fitQueue cardBlocks (old .queue)) fit;
+      queue =
+          second-of-both (fitCore cardBlocks (old .core)) (fitQueue cardBlocks (old .queue)) fit;
     }
 
 -- .. and put together again

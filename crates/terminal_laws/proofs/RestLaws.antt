@@ -122,7 +122,8 @@ module _ (old : Card) (sound : WholeAndFit old) where
 
   -- the block of a message that a word opens
   pub opened-block-in-memory : (heard : Word)
-      → wordAddress (openedAs heard (old .core) (old .ram) .block) (theCell blockCells) ≤ length (old .ram)
+      → wordAddress (openedAs heard (old .core) (old .ram) .block) (theCell blockCells)
+      ≤ length (old .ram)
   unfolding openedMessage
   opened-block-in-memory heard =
       omega (

@@ -8,6 +8,7 @@ use native.Mathlib.Omega.{arith}
 use lib.ListN.{length}
 use borrow.Author.Tests.{lt-leb}
 use Rattle.bus.specs.declared.word.Word.{Word}
+use Rattle.card.specs.Memory.{withCells}
 use Rattle.message.specs.declared.state.Stage.{Stage}
 use Rattle.message.specs.declared.state.Stage.the-variants.{Data}
 use Rattle.message.specs.declared.state.OpenMessage.{OpenMessage}
@@ -23,7 +24,7 @@ use Rattle.terminal.specs.Event.{word, Outcome, quietly}
 use Rattle.terminal.specs.Row.{
   withTaken,
   wordStored,
-  withRow,
+  valuesOf,
   rowStored,
   DataWord,
   DataWords,
@@ -72,7 +73,7 @@ pub row-is-words : (row : List Word) (message : OpenMessage) (old : Card)
     → old .core .message ≡ Open message → message .stage ≡ Data
     → message .taken + length row ≤ wants message → DataWords (message .line) row
     → run (map word row) old ≡ rowStored row message old
-unfolding run step withRow withMessage further
+unfolding run step withCells withMessage further
 row-is-words [] message old is-open in-data within no-words =
     let none : message .taken ≡ message .taken + 0 = omega arith in
     none-taken message old is-open in-data
@@ -83,7 +84,7 @@ row-is-words (heard ∷ more) message old is-open in-data within (a-word first r
     ∙ row-is-words more next (wordStored (heard .value) (message .taken + 1) message old)
     is-next refl within-next rest
     ∙ ap (λ (taken : ℕ). card (withTaken taken message (old .core)) (old .queue)
-    (withRow (old .ram) (message .block) (message .taken) (heard ∷ more))) longer
+    (withCells (old .ram) (message .block) (message .taken) (valuesOf (heard ∷ more)))) longer
   where
     next : OpenMessage
     next = further Data (message .second) (message .taken + 1) message

@@ -31,7 +31,7 @@ pub record Kept (Spent : Block → Type 0) (address : ℕ) : Type 0 where
   pub service-cell : (block : Block) (cell : Cell) → Spent block → 58 ≤ cell .0 → cell .0 ≤ 61
       → address ≢ wordAddress block cell
 
--- queues are the same, tableWord for tableWord: none is excepted
+-- queues are the same, entry for entry: none is excepted
 pub record SameQueue (here there : Queue) : Type 0 where
   pub entries : here ≡ there
 

@@ -2,7 +2,7 @@
 -- terminal never writes other cells of a message's block, save the table cell where that block is
 -- the table. Definitions only; proved in `proofs/StepFrame`. Assumes nothing.
 use mathlib.Core.Path.{_≡_}
-use mathlib.Core.Bool.{Bool, false, _&&_}
+use mathlib.Core.Bool.{Bool, false}
 use mathlib.Core.List.{List}
 use Prim.Native.Nat.{ℕ, _+_, _≤_, _<_}
 use lib.ListN.{length, getD}

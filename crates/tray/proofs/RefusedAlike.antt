@@ -70,7 +70,8 @@ module _ (bytes : List ℕ) (old : Card) where
   unfolding actionOf setupAction
   setup-number station table flags =
       sym (choice-under (λ (done : Done). done .refusal) (not (isStation station)) refl
-      (choice-under (λ (done : Done). done .refusal) (not (isBlock cardBlocks (theBlock table))) refl
+      (choice-under (λ (done : Done). done .refusal) (not (isBlock cardBlocks (theBlock table)))
+      refl
       (choice-under (λ (done : Done). done .refusal) (not (areFlags flags)) refl refl)))
 
   module _ (sound : WholeAndFit old) where

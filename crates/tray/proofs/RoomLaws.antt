@@ -9,7 +9,6 @@ use native.Mathlib.Omega.{arith}
 use lib.ListN.{length, drop, take-append-drop}
 use lib.Seq.{sets, sets-eq, length-take-le, drop-drop}
 use borrow.Author.Tests.{eqb-true}
-use Rattle.rules.proofs.Choices.{by-test}
 use Rattle.rules.proofs.Clash.{clash}
 use Rattle.queue.specs.Queue.{oldestWord}
 use Rattle.terminal.specs.Machine.{

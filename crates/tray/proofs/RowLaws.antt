@@ -8,14 +8,16 @@ use native.Mathlib.Omega.{arith}
 use lib.ListN.{length}
 use borrow.Author.Tests.{lt-ltb}
 use Rattle.bus.specs.declared.word.Word.{Word}
-use Rattle.card.specs.Memory.{theCell, withCell}
+use Rattle.bus.specs.Word.{wordOf}
+use Rattle.card.specs.Memory.{theCell, withCell, withCells}
 use Rattle.message.specs.declared.state.OpenMessage.{OpenMessage}
 use Rattle.terminal.specs.declared.row.Row.{Row}
 use Rattle.terminal.specs.declared.state.Core.{Core}
-use Rattle.terminal.specs.Row.{withTaken, withRow}
+use Rattle.terminal.specs.Row.{withTaken}
 use Rattle.terminal.specs.AsCoded.Row.{Storing, storing, wordCounted, withWord}
 use Rattle.recording.specs.declared.words.Found.{Found}
 use Rattle.recording.specs.declared.words.Found.the-variants.{Value, Nothing}
+use Rattle.recording.specs.Bytes.{timeAt}
 use Rattle.recording.specs.AsCoded.Found.{wordFound}
 use Rattle.tray.specs.declared.row.Reach.{Reach}
 use Rattle.tray.specs.declared.window.Passed.{Passed as HeldPassed}
@@ -44,7 +46,7 @@ pub record RowSoFar (window : List ℕ) (line : Bool) (row₀ : Row) (at₀ : �
 -- no word: nothing has changed
 behind-none : (row : Row) (at : ℕ) (ram : List ℕ)
     → behind [] (at-row row at ram) ≡ at-row row at ram
-unfolding withRow
+unfolding withCells
 behind-none row at ram =
     let same-taken : row .taken + 0 ≡ row .taken = omega arith in
     let same-at : at + 10 * 0 ≡ at = omega arith in
@@ -55,7 +57,7 @@ behind-one : (heard : Word) (words : List Word) (row : Row) (at : ℕ) (ram : Li
     → behind (heard ∷ words) (at-row row at ram)
     ≡ behind words (at-row (wordCounted row) (at + 10)
     (withCell ram (row .block) (theCell (row .taken)) (heard .value)))
-unfolding withRow
+unfolding withCells
 behind-one heard words row at ram =
     let same-taken : row .taken + suc (length words) ≡ row .taken + 1 + length words =
     omega arith in
@@ -96,7 +98,8 @@ module _ (window : List ℕ) (line : Bool) where
         record {
           leads =
               rw (same-row, same-ram, same-next)
-              (sym (behind-one _ _ row at ram)
+              (sym (behind-one (wordOf (marksOn line) value (timeAt window (at + 6)))
+              (wordsFound (row .wanted - (row .taken + 1)) window line (at + 10)) row at ram)
               ∙ rw (fewer, at-marks, is, same-next) at (so-far .leads));
           ram-as-long = long ∙ so-far .ram-as-long;
         }

@@ -98,7 +98,8 @@ module _ (old : HeldPassed) (message : OpenMessage) (window ram ram′ : List �
   pub words-fit : end .row .taken - row .taken ≤ most
   words-fit = omega (arith, longer, same-row, few, wants-at-most message, tells .many)
 
-  module _ (left words : ℕ) (new : HeldPassed) (is-open : old .tray .held .core .message ≡ Open message)
+  module _ (left words : ℕ) (new : HeldPassed)
+      (is-open : old .tray .held .core .message ≡ Open message)
       (is-words : words ≡ end .row .taken - row .taken)
       (is-new : new ≡ passedAfter old message end words) (is-left : left ≡ most - words)
       (small : old .tray .fields < 2 ^ 64) (near : old .tray .offset < 2 ^ 64) where

@@ -25,7 +25,6 @@ use Rattle.lines.specs.Written.{lineRoom, lineWritten}
 use Rattle.lines.proofs.WrittenLaws.{take-written, length-written, next-written}
 use Rattle.tray.specs.declared.window.Stop.{Stop}
 use Rattle.tray.specs.declared.window.Stop.the-variants.{Going, Hungry, Full, Over}
-use Rattle.tray.specs.Happening.{event, happeningOf}
 use Rattle.tray.specs.Run.{
   Tray,
   lastLine,

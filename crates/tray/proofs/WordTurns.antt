@@ -81,7 +81,8 @@ unfolding turns
 one-turn window last left old new going is = rw (is, going)
 
 module _ (window out : List ℕ) (last line : Bool) (seen : Seen) (put : ℕ) (stop : Stop)
-    (after-setup : seen .setup ≡ true) (is-going : stop ≡ Going) (enough : lineRoom ≤ length out - put) where
+    (after-setup : seen .setup ≡ true) (is-going : stop ≡ Going)
+    (enough : lineRoom ≤ length out - put) where
   -- a run among words
   abbrev pub among : ℕ → Card → ℕ → ℕ → Passed
   among at old fields offset =

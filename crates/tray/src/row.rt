@@ -81,7 +81,13 @@ fn after_row(passed: Passed, message: OpenMessage, end: Reach, words: u16) -> Pa
 }
 
 // The data words that stand next and are wanted. Each is a turn, but touches a few numbers alone.
-pub(crate) fn take_row(passed: Passed, ram: &mut [u16], window: &[u8], room: usize, most: u64) -> Rowed
+pub(crate) fn take_row(
+    passed: Passed,
+    ram: &mut [u16],
+    window: &[u8],
+    room: usize,
+    most: u64,
+) -> Rowed
     ensures { λ rowed. ⌜ RowTaken (now (window .entry)) room most passed (now (ram .entry))
         (rowed .left) (rowed .passed) (now (ram .exit)) ⌝ }
 {
@@ -96,7 +102,10 @@ pub(crate) fn take_row(passed: Passed, ram: &mut [u16], window: &[u8], room: usi
         };
     };
     let row = Row::of(message);
-    let able = tray.seen.setup & (lines::LINE_ROOM <= room) & (32 < most) & (row.taken < row.wanted);
+    let able = tray.seen.setup
+        & (lines::LINE_ROOM <= room)
+        & (32 < most)
+        & (row.taken < row.wanted);
     if !able {
         return Rowed {
             passed: passed,

@@ -151,7 +151,9 @@ fn turn(
     let seen = tray.seen;
     let reading = recording::read_field(window, passed.at, seen);
     match reading {
-        Reading::Taken { field, next } => { take_field(passed, places, ram, window, out, field, next) }
+        Reading::Taken { field, next } => {
+            take_field(passed, places, ram, window, out, field, next)
+        }
         Reading::End => {
             let end = stop_at(out, passed.put, 0, last, tray.fields, tray.offset);
             let stop = end.stop;

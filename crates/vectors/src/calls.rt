@@ -8,16 +8,18 @@
 //     1  a word 2C61: its marks    2  silence: line    3  host write: address, count of words
 //     4  queue read                5  table block      6  flags
 //     7  words to send: block, count
-ghost use Rattle.vectors.specs.Same.{Compared};
 use crate::given;
 use crate::notation;
 use crate::recordings;
 use actions::Answered;
 use actions::Done;
 use actions::Terminal;
+use card::place::Block;
+use card::place::CARD_BLOCKS;
 use card::sent;
 use check;
 use io;
+use terminal::state::Held;
 
 // ---- the actions
 
@@ -39,17 +41,12 @@ fn done(answered: Answered) -> Done {
     }
 }
 
-// The first argument, as a byte.
-fn byte_of(row: &[u8]) -> u8 {
-    notation::byte_in(row, 3)
-}
-
 fn word(given: Terminal, ram: &mut [u16], row: &[u8]) -> Done {
-    done(given.word(ram, byte_of(row), 0x2C61, 9))
+    done(given.word(ram, notation::byte_in(row, 3), 0x2C61, 9))
 }
 
 fn silence(given: Terminal, ram: &mut [u16], row: &[u8]) -> Done {
-    done(given.silence(ram, byte_of(row), 9))
+    done(given.silence(ram, notation::byte_in(row, 3), 9))
 }
 
 fn write(given: Terminal, ram: &mut [u16], row: &[u8]) -> Done {
@@ -60,9 +57,9 @@ fn write(given: Terminal, ram: &mut [u16], row: &[u8]) -> Done {
 
 // A part that is refused is empty; one that is shown has the words that were asked for.
 fn part(given: Terminal, ram: &[u16], row: &[u8]) -> Done {
-    let block = notation::word_in(row, 1);
+    let block = Block(notation::word_in(row, 1));
     let count = notation::word_in(row, 2);
-    let number = sent::refusal(ram, block, count);
+    let number = sent::refusal(ram, CARD_BLOCKS, block, count);
     let shown = sent::part(ram, block, count).len();
     let right = ((number == 0) & (shown == count as usize)) | ((number != 0) & (shown == 0));
     Done {
@@ -84,7 +81,7 @@ fn read(given: Terminal) -> Done {
 
 fn setup(given: Terminal) -> Done {
     let core = given.core;
-    Terminal::setup(core.station, core.table, core.flags)
+    Terminal::setup(core.station, core.table.0, core.flags)
 }
 
 // The actions that take no RAM.
@@ -109,16 +106,11 @@ fn perform(given: Terminal, ram: &mut [u16], row: &[u8]) -> Done {
 
 // ---- what is left
 
-// Whether two rows of words are the same.
-fn same_words(first: &[u16], second: &[u16]) -> bool
-    ensures { λ same. ⌜ Compared (now (first .entry)) (now (second .entry)) same ⌝ }
-{
-    if first.len() != second.len() {
-        return false;
-    }
+// Whether every word of a row of words is the same as another.
+fn all_are(words: &[u16], wanted: u16) -> bool {
     let mut word: usize = 0;
-    while word < first.len() {
-        if first[word] != second[word] {
+    while word < words.len() {
+        if words[word] != wanted {
             return false;
         }
         word += 1;
@@ -130,46 +122,43 @@ fn put_terminal(out: &mut [u8], terminal: Terminal) -> usize {
     let core = terminal.core;
     let queue = terminal.queue;
     let ring = queue.ring;
-    let table = notation::put_pair(out, 0, core.station, core.table);
+    let table = notation::put_pair(out, 0, core.station, core.table.0);
     let start = notation::put_pair(out, table, core.flags, ring.start);
-    recordings::put_state(out, start, core, ring)
+    let held = Held {
+        core: core,
+        ring: ring,
+    };
+    recordings::put_state(out, start, held)
 }
 
-fn is_left(given: Terminal, left: Terminal, wanted: &[u8]) -> bool {
+// Whether a terminal is as wanted, and its queue's places are those of the row.
+fn is_left(terminal: Terminal, row: &[u8], wanted: &[u8]) -> bool {
     let mut bytes = io::buffer();
-    let size = put_terminal(&mut bytes, left);
-    let queue = given.queue;
-    let other = left.queue;
-    same_words(&queue.places, &other.places) & check::same(notation::part(&bytes, 0, size), wanted)
+    let size = put_terminal(&mut bytes, terminal);
+    let queue = terminal.queue;
+    all_are(&queue.places, notation::word_in(row, 10))
+        & check::same(notation::part(&bytes, 0, size), wanted)
 }
 
 // ---- the cases
 
 // Whether an action gives the row's refusal, and leaves what it should.
 fn call_holds(row: &[u8], wanted: &[u8], ram: &mut [u16]) -> bool {
-    let terminal = given::terminal_of(row);
-    let made = perform(terminal, ram, row);
+    let made = perform(given::terminal_of(row), ram, row);
     let left = made.terminal;
-    let number = made.refusal as u16;
-    (number == notation::word_in(row, 4)) & is_left(terminal, left, wanted)
+    (made.refusal == notation::byte_in(row, 9)) & is_left(left, row, wanted)
 }
 
-// .. over the row's part of a RAM.
-fn part_holds(row: &[u8], wanted: &[u8], ram: &mut [u16]) -> bool {
+// Whether a row comes out as it should, over as much of a RAM as it says.
+fn row_holds(row: &[u8], wanted: &[u8]) -> bool {
+    let mut cells: [u16; 16385] = [0x1234; 16385];
+    let ram: &mut [u16] = &mut cells;
     let size = notation::word_in(row, 3) as usize;
     if ram.len() < size {
         return false;
     }
-    call_holds(row, wanted, &mut ram[0..size])
-}
-
-// Whether a row comes out as it should.
-fn row_holds(row: &[u8], wanted: &[u8]) -> bool {
-    let mut cells: [u16; 16385] = [0x1234; 16385];
-    let ram: &mut [u16] = &mut cells;
-    let before: [u16; 16385] = [0x1234; 16385];
-    let right = part_holds(row, wanted, ram);
-    right & ((notation::word_in(row, 4) == 0) | same_words(ram, &before))
+    let right = call_holds(row, wanted, &mut ram[0..size]);
+    right & ((notation::byte_in(row, 9) == 0) | all_are(ram, 0x1234))
 }
 
 // Whether a case comes out as it should.

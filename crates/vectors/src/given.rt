@@ -5,6 +5,7 @@
 // set.
 use crate::notation;
 use actions::Terminal;
+use card::place::Block;
 use message::state::Message;
 use message::state::OpenMessage;
 use message::state::Second;
@@ -34,8 +35,8 @@ fn open_message(row: &[u8]) -> OpenMessage {
     OpenMessage {
         command: notation::word_in(row, 11),
         line: false,
-        block: notation::word_in(row, 12),
-        table: notation::word_in(row, 13),
+        block: Block(notation::word_in(row, 12)),
+        table: Block(notation::word_in(row, 13)),
         moved: false,
         busy: false,
         queued: false,
@@ -56,7 +57,7 @@ fn message_of(row: &[u8]) -> Message {
 fn core_of(row: &[u8]) -> Core {
     Core {
         station: notation::word_in(row, 5),
-        table: notation::word_in(row, 6),
+        table: Block(notation::word_in(row, 6)),
         flags: notation::word_in(row, 7),
         status: 0xFFFF,
         last: 0xFFFF,

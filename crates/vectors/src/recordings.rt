@@ -7,6 +7,7 @@ use message::state::Message;
 use message::state::Stage;
 use queue::Ring;
 use terminal::state::Core;
+use terminal::state::Held;
 use tray;
 use tray::Tray;
 
@@ -39,13 +40,15 @@ fn put_message(out: &mut [u8], at: usize, message: Message) -> usize {
         Message::Idle => at,
         Message::Open(open) => {
             let stage = open.stage;
-            let next = notation::put_pair(out, at, open.command, open.block);
+            let next = notation::put_pair(out, at, open.command, open.block.0);
             notation::put_byte(out, next, number_of(stage) | weigh(open.moved, 128))
         }
     }
 }
 
-pub(crate) fn put_state(out: &mut [u8], at: usize, core: Core, ring: Ring) -> usize {
+pub(crate) fn put_state(out: &mut [u8], at: usize, held: Held) -> usize {
+    let core = held.core;
+    let ring = held.ring;
     let message = core.message;
     let words = notation::put_pair(out, at, core.status, core.last);
     let marks = notation::put_byte(out, words, marks_of(core, ring));
@@ -71,40 +74,33 @@ fn put_cells(out: &mut [u8], at: usize, ram: &[u16; 16384]) -> usize {
 
 // ---- a case
 
-// How many bytes of lines a run printed, and how many bytes there are with what it leaves.
-struct Sizes {
-    lines: usize,
-    all: usize,
-}
-
-// Runs a recording on a new card. Puts its lines and what it leaves.
-fn run_recording(recording: &[u8], out: &mut [u8]) -> Sizes {
+// Runs a recording on a new card. Puts its lines and, behind them, what it leaves.
+fn run_recording(recording: &[u8], out: &mut [u8]) -> usize {
     let mut places: [u16; 256] = [0; 256];
     let mut ram: [u16; 16384] = [0; 16384];
-    let passed = tray::run_window(Tray::at_start(), &mut places, &mut ram, recording, out, true);
-    let tray = passed.tray;
-    let held = tray.held;
-    let core = held.core;
-    let ring = held.ring;
-    let next = put_state(out, passed.put, core, ring);
-    Sizes {
-        lines: passed.put,
-        all: put_cells(out, next, &ram),
-    }
+    let passed = tray::run_window(
+        Tray::at_start(),
+        &mut places,
+        &mut ram,
+        recording,
+        out,
+        true,
+    );
+    let run = passed.tray;
+    let held = run.held;
+    let next = put_state(out, passed.put, held);
+    put_cells(out, next, &ram)
 }
 
 // Whether a recording prints the lines of a text, and leaves what it says behind them.
 fn leaves(recording: &[u8], text: &[u8]) -> bool {
     let mut bytes = io::large_buffer();
-    let sizes = run_recording(recording, &mut bytes);
+    let size = run_recording(recording, &mut bytes);
     let end = notation::place_of(text, 0, b'=');
     let mut wanted = io::large_buffer();
     let count = notation::read_hex(notation::part(text, end, text.len()), &mut wanted, 0);
-    let state = notation::part(&bytes, sizes.lines, sizes.all);
-    check::same(
-        notation::part(&bytes, 0, sizes.lines),
-        notation::part(text, 0, end),
-    )
+    let state = notation::part(&bytes, end, size);
+    check::same(notation::part(&bytes, 0, end), notation::part(text, 0, end))
         & check::same(state, notation::part(&wanted, 0, count))
 }
 

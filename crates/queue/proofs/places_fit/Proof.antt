@@ -11,7 +11,8 @@ use Rattle.queue.proofs.places_fit.Tie as tie
 
 abbrev Inv-loop : tie.InvT-loop
 Inv-loop blocks places fit₀ place₀ fit place =
-    (place ≤ 256) × (length places ≡ 256) × Judging blocks (fitPlaces blocks places) fit places place
+    (place ≤ 256) × (length places ≡ 256)
+    × Judging blocks (fitPlaces blocks places) fit places place
 
 abbrev μ-loop : tie.MeasureT-loop
 μ-loop blocks places fit₀ place₀ fit place = 256 - place

@@ -1,5 +1,5 @@
--- Two queues that are the same stay so: a message closes, the oldest tableWord leaves. The runs meet the
--- queue by these laws alone. Assumes nothing.
+-- Two queues that are the same stay so: a message closes, the oldest entry leaves. The runs meet
+-- the queue by these laws alone. Assumes nothing.
 use mathlib.Core.Path.{_≡_, refl, ap}
 use Rattle.queue.specs.declared.Queue.{Queue}
 use Rattle.queue.specs.Queue.{oldestWord, withoutOldest, queue}

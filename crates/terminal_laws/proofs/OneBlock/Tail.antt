@@ -224,7 +224,7 @@ module _ {Spent : Block → Type 0} {before : Bool} (core : Core) (status : ℕ)
   still-silence (Open message) line time remembered =
       still-silence-done (onSilence (asks message) message line) message time remembered
 
-  -- the oldest tableWord leaves the queue
+  -- the oldest entry leaves the queue
   still-read : StillRelated Spent before (core .message) (readQueueStep here) (readQueueStep there)
   unfolding readQueueStep stillBefore
   still-read =

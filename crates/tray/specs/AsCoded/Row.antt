@@ -8,9 +8,10 @@ use lib.Dec.{leb, ltb}
 use lib.ListN.{length}
 use Rattle.bus.specs.declared.word.Word.{Word}
 use Rattle.bus.specs.Word.{wordOf}
+use Rattle.card.specs.Memory.{withCells}
 use Rattle.message.specs.declared.state.OpenMessage.{OpenMessage}
 use Rattle.terminal.specs.declared.row.Row.{Row}
-use Rattle.terminal.specs.Row.{withTaken, withRow}
+use Rattle.terminal.specs.Row.{withTaken, valuesOf}
 use Rattle.recording.specs.declared.seen.Seen.{Seen}
 use Rattle.recording.specs.declared.words.Found.{Found}
 use Rattle.recording.specs.declared.words.Found.the-variants.{Value, Nothing}
@@ -65,7 +66,7 @@ behind words old =
           };
       at = old .reach .at + 10 * length words;
     })
-    (withRow (old .ram) (row .block) (row .taken) words)
+    (withCells (old .ram) (row .block) (row .taken) (valuesOf words))
 
 -- behind the words that are found, as many as are wanted
 abbrev pub behindRow : List ℕ → Bool → Stored → Stored

@@ -1,4 +1,5 @@
--- `terminal::Core::open` meets its contract: what is asked and the tableWord are what the calls ensure.
+-- `terminal::Core::open` meets its contract: what is asked and the table word are what the calls
+-- ensure.
 -- Assumes nothing.
 use borrow.Author.Needs.{needs}
 use Rattle.terminal.proofs.OpeningLaws.{opened-is}

@@ -1,2 +1,0 @@
--- What the program's comparison of cells says.
-pub mod Same
