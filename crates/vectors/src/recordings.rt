@@ -86,8 +86,8 @@ fn run_recording(recording: &[u8], out: &mut [u8]) -> usize {
         out,
         true,
     );
-    let run = passed.tray;
-    let held = run.held;
+    let tray = passed.tray;
+    let held = tray.held;
     let next = put_state(out, passed.put, held);
     put_cells(out, next, &ram)
 }
