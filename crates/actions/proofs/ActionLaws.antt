@@ -8,6 +8,7 @@ use lib.Dec.{eqb}
 use lib.ListN.{length}
 use lib.Seq.{sets}
 use borrow.Author.Tests.{eq-eqb, ne-eqb}
+use Rattle.bus.specs.declared.word.Word.{Word}
 use Rattle.bus.specs.Limits.{isStation, areFlags}
 use Rattle.bus.specs.Word.{wordOf}
 use Rattle.card.specs.declared.place.Block.{Block}
@@ -17,14 +18,12 @@ use Rattle.card.specs.Host.{isWrite}
 use Rattle.queue.specs.declared.QueueRead.{QueueRead}
 use Rattle.queue.specs.declared.Queue.{Queue}
 use Rattle.queue.specs.Queue.{readOf, fitQueue, emptyQueue}
+use Rattle.message.specs.Message.{movedMessage}
 use Rattle.terminal.specs.declared.state.Core.{Core}
-use Rattle.actions.specs.declared.Terminal.{Terminal}
-use Rattle.bus.specs.declared.word.Word.{Word}
 use Rattle.terminal.specs.declared.state.Answer.{Answer}
 use Rattle.terminal.specs.declared.state.Reply.{Reply}
 use Rattle.terminal.specs.declared.state.Reply.the-variants.{Silent}
 use Rattle.terminal.specs.State.{Card, card, withTable, withFlags, withMessage, coreAtSetup}
-use Rattle.message.specs.Message.{movedMessage}
 use Rattle.terminal.specs.Event.{
   Event,
   word,
@@ -50,6 +49,8 @@ use Rattle.terminal.specs.Machine.{
   setFlagsStep,
 }
 use Rattle.terminal.specs.Fitness.{fitCore}
+use Rattle.terminal.proofs.SilentLaws.{words-are-silent}
+use Rattle.actions.specs.declared.Terminal.{Terminal}
 use Rattle.actions.specs.Actions.{
   After,
   after,
@@ -67,7 +68,6 @@ use Rattle.actions.specs.Actions.{
   setupAction,
 }
 use Rattle.actions.specs.AsCoded.Refusal.{setupRefusal, aloneRefusal, memoryRefusal}
-use Rattle.terminal.proofs.SilentLaws.{words-are-silent}
 
 -- ---- what is judged
 

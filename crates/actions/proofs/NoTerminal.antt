@@ -7,11 +7,11 @@ use Prim.Native.Nat.{ℕ}
 use lib.Dec.{eqb}
 use lib.ListN.{length}
 use Rattle.card.specs.Memory.{cardWords}
-use Rattle.actions.specs.declared.Terminal.{Terminal}
 use Rattle.terminal.specs.declared.state.Answer.{Answer}
 use Rattle.terminal.specs.declared.state.Reply.the-variants.{Silent}
 use Rattle.terminal.specs.State.{Card}
 use Rattle.terminal.specs.Event.{Event, replied, queueWord}
+use Rattle.actions.specs.declared.Terminal.{Terminal}
 use Rattle.actions.specs.Actions.{
   After,
   after,

@@ -4,6 +4,7 @@ use mathlib.Core.Path.{_≡_}
 use mathlib.Core.Bool.{Bool, true, false, not, _&&_, _||_, Bool·beq}
 use Prim.Native.Nat.{ℕ}
 use borrow.Author.Tests.{eq-eqb, ne-eqb, not-false}
+use Rattle.bus.specs.declared.word.Word.{Word}
 use Rattle.bus.specs.Command.{addressOf}
 use Rattle.message.specs.declared.asked.Asked.{Asked}
 use Rattle.message.specs.declared.judge.WordAct.{WordAct}
@@ -22,7 +23,6 @@ use Rattle.message.specs.declared.state.Stage.the-variants.{
   Skipping,
 }
 use Rattle.message.specs.declared.state.OpenMessage.{OpenMessage}
-use Rattle.bus.specs.declared.word.Word.{Word}
 use Rattle.message.specs.Message.{secondOf}
 use Rattle.message.specs.Words.{ownCommand}
 use Rattle.message.specs.Words.{

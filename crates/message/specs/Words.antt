@@ -3,6 +3,7 @@
 use mathlib.Core.Bool.{Bool, cond, not, _&&_, _||_, Bool·beq}
 use Prim.Native.Nat.{ℕ, _+_, _%_}
 use lib.Dec.{eqb, leb}
+use Rattle.bus.specs.declared.word.Word.{Word}
 use Rattle.bus.specs.Command.{addressOf, modeCodeOf, isTransmit, isBroadcast, isMode}
 use Rattle.message.specs.declared.asked.Asked.{Asked}
 use Rattle.message.specs.declared.judge.WordAct.{WordAct}
@@ -24,7 +25,6 @@ use Rattle.message.specs.declared.state.Stage.the-variants.{
   Skipping,
 }
 use Rattle.message.specs.declared.state.OpenMessage.{OpenMessage}
-use Rattle.bus.specs.declared.word.Word.{Word}
 use Rattle.message.specs.Message.{hasSecond, secondOf}
 use Rattle.message.specs.Asked.{keepsBack}
 

@@ -4,9 +4,9 @@
 use mathlib.Core.Path.{_≡_, sym, _∙_}
 use mathlib.Core.List.{List}
 use Prim.Native.Nat.{ℕ}
-use contract.Lifetimes.{Lfts}
-use denote.Triple.Clauses.{AtExit}
 use borrow.Fn.Kinds.{PK, RK, Out, Dens, resT, endedOf}
+use denote.Triple.Clauses.{AtExit}
+use contract.Lifetimes.{Lfts}
 
 module _ (n : ℕ) (ps : List (PK n)) (r : RK n) (post : Out n ps r) where
   -- for each choice of arguments, any two outcomes that the contract allows look the same, where

@@ -12,7 +12,6 @@ use Rattle.recording.specs.Value.{setup, readQueue, valuedAt, fieldOf}
 use Rattle.recording.specs.Accepted.{no-more, a-field, seenAfterAll}
 use Rattle.lines.specs.Digits.{hexWord}
 use Rattle.lines.specs.Lines.{queueLine, endLine, refusalLine}
-use Rattle.runs.proofs.Telling.{runs}
 use Rattle.tray.specs.Happening.{happeningOf, happenings, happened}
 use Rattle.tray.specs.Run.{
   Tray,
@@ -32,6 +31,7 @@ use Rattle.tray.specs.Answered.{
   a-refusal,
   Answered,
 }
+use Rattle.runs.proofs.Telling.{runs}
 
 -- station 5, table block 1, no flags; then a queue read
 abbrev setup-bytes : List ℕ

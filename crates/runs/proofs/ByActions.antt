@@ -16,7 +16,6 @@ use Rattle.recording.specs.Tag.{tagOf, lengthFits}
 use Rattle.recording.specs.Field.{fieldAt}
 use Rattle.recording.specs.Seen.{setupSeen}
 use Rattle.recording.specs.Reading.{readAt}
-use Rattle.runs.proofs.Telling.{runs}
 use Rattle.tray.specs.Run.{Tray, trayOver, trayAtStart, Whole, wholeFrom}
 use Rattle.tray.specs.ByActions.{
   actionOf,
@@ -28,6 +27,7 @@ use Rattle.tray.specs.ByActions.{
   refuses,
 }
 use Rattle.tray.proofs.ByActions.{run-by-actions}
+use Rattle.runs.proofs.Telling.{runs}
 
 -- ---- recordings
 

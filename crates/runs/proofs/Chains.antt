@@ -9,20 +9,20 @@ use Prim.Native.Nat.{ℕ, _%_, _<_}
 use native.Mathlib.Omega.{arith}
 use lib.ListN.{length, replicate}
 use Rattle.rules.proofs.Clash.{clash}
+use Rattle.bus.specs.declared.word.Word.{Word}
+use Rattle.bus.specs.Word.{wordOf}
 use Rattle.card.specs.declared.place.Block.{Block}
 use Rattle.card.specs.declared.place.Cell.{Cell}
 use Rattle.card.specs.Memory.{blockCells, theBlock, theCell, cellAt}
 use Rattle.card.specs.TableWord.{blockOf}
+use Rattle.queue.specs.Queue.{emptyQueue}
 use Rattle.message.specs.declared.state.Second.the-variants.{Absent}
 use Rattle.message.specs.declared.state.Stage.the-variants.{Data}
 use Rattle.message.specs.declared.state.OpenMessage.{OpenMessage}
 use Rattle.message.specs.declared.state.Message.the-variants.{Open}
-use Rattle.bus.specs.declared.word.Word.{Word}
-use Rattle.queue.specs.Queue.{emptyQueue}
 use Rattle.terminal.specs.State.{Card, card, coreAtSetup}
 use Rattle.terminal.specs.Event.{Event, word, readQueue, moveTable, afresh}
 use Rattle.terminal.specs.Machine.{step, run}
-use Rattle.bus.specs.Word.{wordOf}
 use Rattle.terminal_laws.specs.Closes.{
   OpenWithBlock,
   Closes,

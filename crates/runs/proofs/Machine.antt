@@ -8,6 +8,12 @@ use Rattle.card.specs.Memory.{cellAt, withCell, withService, withLink}
 use Rattle.card.specs.StateWord.{stateWord}
 use Rattle.card.specs.Sent.{sentRefusal, sentPart}
 use Rattle.queue.specs.Queue.{withJoined, oldestWord, withoutOldest, fitQueue}
+use Rattle.message.specs.Message.{further, movedMessage}
+use Rattle.message.specs.Asked.{askedBy}
+use Rattle.message.specs.Words.{ownCommand}
+use Rattle.message.specs.Words.{inData, inSecondCommand, inAwaitingStatus, onWord}
+use Rattle.message.specs.Silence.{onSilence}
+use Rattle.message.specs.Fitness.{fitOpen}
 use Rattle.terminal.specs.State.{
   withTable,
   withFlags,
@@ -17,12 +23,7 @@ use Rattle.terminal.specs.State.{
   withMessage,
   coreAtSetup,
 }
-use Rattle.message.specs.Message.{further, movedMessage}
-use Rattle.message.specs.Asked.{askedBy}
-use Rattle.message.specs.Words.{ownCommand}
 use Rattle.terminal.specs.Opening.{openedMessage, openedStatus, openedCore, opening}
-use Rattle.message.specs.Words.{inData, inSecondCommand, inAwaitingStatus, onWord}
-use Rattle.message.specs.Silence.{onSilence}
 use Rattle.terminal.specs.Closing.{
   stateOf,
   closedRam,
@@ -47,7 +48,6 @@ use Rattle.terminal.specs.Machine.{
   step,
   run,
 }
-use Rattle.message.specs.Fitness.{fitOpen}
 use Rattle.terminal.specs.Fitness.{fitCore}
 use Rattle.actions.specs.Actions.{
   withMemory,

@@ -11,7 +11,6 @@ use Rattle.recording.specs.Reading.{readAt}
 use Rattle.recording.specs.Value.{valuedAt}
 use Rattle.lines.specs.Digits.{hexDigit, hexWord, decimalBy, decimal}
 use Rattle.lines.specs.Lines.{eachWord, statusLine, queueLine, endLine, refusalLine}
-use Rattle.runs.proofs.Telling.{runs}
 use Rattle.tray.specs.Happening.{happeningOf, happened}
 use Rattle.tray.specs.Run.{
   trayAtStart,
@@ -24,6 +23,7 @@ use Rattle.tray.specs.Run.{
   wholeFrom,
 }
 use Rattle.runs.specs.Marked.{Cell, cell, Case, case, marked}
+use Rattle.runs.proofs.Telling.{runs}
 
 -- what is found where the table says what is wanted
 abbrev found : Case → Case

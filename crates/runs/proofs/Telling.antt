@@ -5,13 +5,13 @@ use mathlib.Core.Bool.{true, false}
 use mathlib.Core.List.{List, [], _∷_}
 use Prim.Native.Nat.{ℕ}
 use lib.ListN.{getD, replicate}
+use Rattle.bus.specs.Word.{wordOf}
 use Rattle.card.specs.Memory.{cardWords, theBlock, theCell, wordAddress}
 use Rattle.queue.specs.Queue.{emptyQueue}
-use Rattle.terminal.specs.State.{Card, card, coreAtSetup}
 use Rattle.terminal.specs.declared.state.Answer.{Answer}
+use Rattle.terminal.specs.State.{Card, card, coreAtSetup}
 use Rattle.terminal.specs.Event.{Event, word, silence, hostWrite, Outcome, quietly}
 use Rattle.terminal.specs.Machine.{step, run}
-use Rattle.bus.specs.Word.{wordOf}
 use Rattle.runs.proofs.Machine.{machine}
 
 -- ---- words and silences

@@ -14,10 +14,10 @@ use Rattle.queue.specs.declared.Queue.{Queue}
 use Rattle.message.specs.declared.asked.Asked.{Asked}
 use Rattle.message.specs.declared.state.OpenMessage.{OpenMessage}
 use Rattle.message.specs.declared.state.Message.the-variants.{Idle}
+use Rattle.message.specs.Message.{hasSecond}
 use Rattle.terminal.specs.declared.state.Shut.{Shut}
 use Rattle.terminal.specs.declared.state.Core.{Core}
 use Rattle.terminal.specs.declared.state.Reply.the-variants.{Silent, Status, Words, Last}
-use Rattle.message.specs.Message.{hasSecond}
 use Rattle.terminal.specs.State.{card, withStatus, withSwitches, withMessage}
 use Rattle.terminal.specs.Closing.{
   unlessBusy,

@@ -6,6 +6,7 @@ use Prim.Native.Nat.{ℕ}
 use borrow.Author.Tests.{not-true, not-false}
 use Rattle.bits.specs.Bit.{hasBit}
 use Rattle.bus.specs.declared.status.Status.{Status}
+use Rattle.bus.specs.declared.word.Word.{Word}
 use Rattle.bus.specs.Status.{statusWord, caughtStatus}
 use Rattle.card.specs.declared.place.Block.{Block}
 use Rattle.card.specs.Memory.{theBlock, cellAt}
@@ -16,9 +17,8 @@ use Rattle.message.specs.declared.state.Stage.the-variants.{Data, Skipping}
 use Rattle.message.specs.declared.state.Second.the-variants.{Absent}
 use Rattle.message.specs.declared.state.OpenMessage.{OpenMessage}
 use Rattle.message.specs.declared.state.Message.the-variants.{Open}
-use Rattle.bus.specs.declared.word.Word.{Word}
-use Rattle.terminal.specs.declared.state.Core.{Core}
 use Rattle.message.specs.Asked.{askedOf}
+use Rattle.terminal.specs.declared.state.Core.{Core}
 use Rattle.terminal.specs.State.{withStatus, withLast, withMessage}
 use Rattle.terminal.specs.Opening.{
   busyAt,

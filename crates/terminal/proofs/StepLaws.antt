@@ -5,6 +5,7 @@ use mathlib.Core.Bool.{Bool, true, false, cond, not}
 use mathlib.Core.List.{List}
 use Prim.Native.Nat.{ℕ}
 use borrow.Author.Tests.{not-true, not-false}
+use Rattle.bus.specs.declared.word.Word.{Word}
 use Rattle.card.specs.Memory.{theCell, withCell}
 use Rattle.queue.specs.declared.Ring.{Ring}
 use Rattle.queue.specs.Queue.{queue}
@@ -19,17 +20,16 @@ use Rattle.message.specs.declared.state.Second.{Second}
 use Rattle.message.specs.declared.state.OpenMessage.{OpenMessage}
 use Rattle.message.specs.declared.state.Message.{Message}
 use Rattle.message.specs.declared.state.Message.the-variants.{Idle, Open}
-use Rattle.bus.specs.declared.word.Word.{Word}
+use Rattle.message.specs.Message.{further}
+use Rattle.message.specs.Asked.{asks}
+use Rattle.message.specs.Words.{ownCommand, onWord}
+use Rattle.message.specs.Silence.{onSilence}
 use Rattle.terminal.specs.declared.machine.WordDeed.{WordDeed}
 use Rattle.terminal.specs.declared.machine.WordDeed.the-variants as word-deeds
 use Rattle.terminal.specs.declared.state.Core.{Core}
 use Rattle.terminal.specs.declared.state.Held.{Held}
 use Rattle.terminal.specs.declared.state.Reply.{Reply}
 use Rattle.terminal.specs.declared.state.Reply.the-variants.{Silent}
-use Rattle.message.specs.Message.{further}
-use Rattle.message.specs.Asked.{asks}
-use Rattle.message.specs.Words.{ownCommand, onWord}
-use Rattle.message.specs.Silence.{onSilence}
 use Rattle.terminal.specs.State.{Card, card, withMessage}
 use Rattle.terminal.specs.Opening.{openedAt, opening}
 use Rattle.terminal.specs.Closing.{faulted, ended}

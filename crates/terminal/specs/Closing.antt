@@ -13,15 +13,15 @@ use Rattle.card.specs.Time.{ticksOf}
 use Rattle.queue.specs.declared.Queue.{Queue}
 use Rattle.queue.specs.Queue.{withJoined}
 use Rattle.message.specs.declared.asked.Asked.{Asked}
-use Rattle.terminal.specs.declared.state.Shut.{Shut}
 use Rattle.message.specs.declared.state.OpenMessage.{OpenMessage}
 use Rattle.message.specs.declared.state.Message.the-variants.{Idle}
+use Rattle.message.specs.Message.{hasSecond}
+use Rattle.message.specs.Asked.{keepsBack}
+use Rattle.terminal.specs.declared.state.Shut.{Shut}
 use Rattle.terminal.specs.declared.state.Core.{Core}
 use Rattle.terminal.specs.declared.state.Reply.{Reply}
 use Rattle.terminal.specs.declared.state.Reply.the-variants.{Silent, Status, Words, Last}
 use Rattle.terminal.specs.State.{Card, card, withStatus, withSwitches, withMessage, withCore}
-use Rattle.message.specs.Message.{hasSecond}
-use Rattle.message.specs.Asked.{keepsBack}
 
 -- ---- the state word
 

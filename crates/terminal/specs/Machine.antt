@@ -4,6 +4,7 @@ use Prim.Native.Nat.{ℕ}
 use lib.Seq.{sets}
 use Rattle.card.specs.declared.place.Block.{Block}
 use Rattle.queue.specs.Queue.{oldestWord, withoutOldest, queue}
+use Rattle.message.specs.Message.{movedMessage}
 use Rattle.terminal.specs.State.{
   Card,
   card,
@@ -14,7 +15,6 @@ use Rattle.terminal.specs.State.{
   withQueue,
   withRam,
 }
-use Rattle.message.specs.Message.{movedMessage}
 use Rattle.terminal.specs.Event.{
   Event,
   word,

@@ -3,6 +3,7 @@ use mathlib.Core.Bool.{Bool, false, cond, _&&_, _||_}
 use mathlib.Core.List.{List}
 use Prim.Native.Nat.{ℕ}
 use Rattle.bits.specs.Bit.{hasBit}
+use Rattle.bus.specs.declared.word.Word.{Word}
 use Rattle.bus.specs.Status.{statusWord, caughtStatus}
 use Rattle.card.specs.Memory.{theBlock, cellAt}
 use Rattle.card.specs.TableWord.{isBusy, wantsQueue, blockOf}
@@ -11,10 +12,9 @@ use Rattle.message.specs.declared.state.Stage.the-variants.{Data, Skipping}
 use Rattle.message.specs.declared.state.Second.the-variants.{Absent}
 use Rattle.message.specs.declared.state.OpenMessage.{OpenMessage}
 use Rattle.message.specs.declared.state.Message.the-variants.{Open}
-use Rattle.terminal.specs.declared.state.Core.{Core}
-use Rattle.bus.specs.declared.word.Word.{Word}
-use Rattle.terminal.specs.State.{Card, withStatus, withLast, withMessage, withCore}
 use Rattle.message.specs.Asked.{askedOf}
+use Rattle.terminal.specs.declared.state.Core.{Core}
+use Rattle.terminal.specs.State.{Card, withStatus, withLast, withMessage, withCore}
 
 -- busy: flag 1 or, with a block, the table word's bit 15
 abbrev pub busyAt : Asked → ℕ → ℕ → Bool

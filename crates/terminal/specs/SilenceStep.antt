@@ -13,10 +13,10 @@ use Rattle.message.specs.declared.state.Stage.the-variants.{AwaitingStatus}
 use Rattle.message.specs.declared.state.OpenMessage.{OpenMessage}
 use Rattle.message.specs.declared.state.Message.{Message}
 use Rattle.message.specs.declared.state.Message.the-variants.{Idle, Open}
-use Rattle.terminal.specs.State.{Card}
 use Rattle.message.specs.Message.{further}
 use Rattle.message.specs.Asked.{asks}
 use Rattle.message.specs.Silence.{onSilence}
+use Rattle.terminal.specs.State.{Card}
 use Rattle.terminal.specs.Closing.{faulted, ended, replyOf}
 use Rattle.terminal.specs.Event.{Outcome, replied, none, quietly, goesOn}
 

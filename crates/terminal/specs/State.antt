@@ -6,9 +6,9 @@ use Rattle.card.specs.declared.place.Block.{Block}
 use Rattle.queue.specs.declared.Queue.{Queue}
 use Rattle.queue.specs.declared.Ring.{Ring}
 use Rattle.queue.specs.Queue.{queue}
-use Rattle.terminal.specs.declared.state.Shut.{Shut}
 use Rattle.message.specs.declared.state.Message.{Message}
 use Rattle.message.specs.declared.state.Message.the-variants.{Idle}
+use Rattle.terminal.specs.declared.state.Shut.{Shut}
 use Rattle.terminal.specs.declared.state.Core.{Core}
 use Rattle.terminal.specs.declared.state.Held.{Held}
 

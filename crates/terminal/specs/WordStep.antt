@@ -1,5 +1,6 @@
 -- A word: what rules 1 to 8 decide is done. Definitions only. Assumes nothing.
 use mathlib.Core.Bool.{cond}
+use Rattle.bus.specs.declared.word.Word.{Word}
 use Rattle.message.specs.declared.asked.Asked.{Asked}
 use Rattle.message.specs.declared.judge.WordAct.{WordAct}
 use Rattle.message.specs.declared.judge.WordAct.the-variants.{
@@ -17,12 +18,11 @@ use Rattle.message.specs.declared.state.Second.the-variants.{Command}
 use Rattle.message.specs.declared.state.OpenMessage.{OpenMessage}
 use Rattle.message.specs.declared.state.Message.{Message}
 use Rattle.message.specs.declared.state.Message.the-variants.{Idle, Open}
-use Rattle.bus.specs.declared.word.Word.{Word}
-use Rattle.terminal.specs.State.{Card}
 use Rattle.message.specs.Message.{further}
 use Rattle.message.specs.Asked.{asks}
 use Rattle.message.specs.Words.{ownCommand}
 use Rattle.message.specs.Words.{onWord}
+use Rattle.terminal.specs.State.{Card}
 use Rattle.terminal.specs.Closing.{faulted}
 use Rattle.terminal.specs.Event.{Outcome, quietly, opens, goesOn}
 use Rattle.terminal.specs.Row.{wordStored}

@@ -11,6 +11,7 @@ use mathlib.Core.List.{List, [], _∷_, _++_}
 use Prim.Native.Nat.{ℕ, _≤_, _<_}
 use native.Mathlib.Omega.{arith}
 use lib.ListN.{length, getD}
+use Rattle.bus.specs.declared.word.Word.{Word}
 use Rattle.card.specs.declared.place.Block.{Block}
 use Rattle.card.specs.declared.place.Cell.{Cell}
 use Rattle.card.specs.Memory.{blockCells, theCell, wordAddress, cellAt, withService}
@@ -31,9 +32,9 @@ use Rattle.message.specs.declared.judge.WordAct.the-variants.{
 use Rattle.message.specs.declared.state.OpenMessage.{OpenMessage}
 use Rattle.message.specs.declared.state.Message.{Message}
 use Rattle.message.specs.declared.state.Message.the-variants.{Idle, Open}
-use Rattle.bus.specs.declared.word.Word.{Word}
 use Rattle.message.specs.Asked.{askedOf, asks}
 use Rattle.message.specs.Words.{ownCommand}
+use Rattle.message.proofs.AskedBounds.{cell-in-table}
 use Rattle.terminal.specs.State.{Card, withStatus, withMessage}
 use Rattle.terminal.specs.Opening.{openedMessage, openedCore, openedAs, opening}
 use Rattle.terminal.specs.Closing.{closedRam, closing, faulted}
@@ -52,7 +53,6 @@ use Rattle.terminal_laws.specs.Chain.{
   OpenIn,
   open-in,
 }
-use Rattle.message.proofs.AskedBounds.{cell-in-table}
 use Rattle.terminal_laws.proofs.StepFrame.{step-writes-only}
 use Rattle.terminal_laws.proofs.ClosedCells.{closed-ram}
 

@@ -3,6 +3,7 @@
 use mathlib.Core.Path.{_≡_, refl, ap, _∙_}
 use mathlib.Core.Bool.{Bool}
 use Prim.Native.Nat.{ℕ}
+use Rattle.bus.specs.declared.word.Word.{Word}
 use Rattle.message.specs.declared.judge.WordAct.{WordAct}
 use Rattle.message.specs.declared.judge.WordAct.the-variants.{
   Ignore,
@@ -21,7 +22,6 @@ use Rattle.message.specs.declared.state.Second.{Second}
 use Rattle.message.specs.declared.state.OpenMessage.{OpenMessage}
 use Rattle.message.specs.declared.state.Message.{Message}
 use Rattle.message.specs.declared.state.Message.the-variants.{Open}
-use Rattle.bus.specs.declared.word.Word.{Word}
 use Rattle.message.specs.Message.{further, movedMessage}
 use Rattle.message.specs.Asked.{asks}
 use Rattle.terminal.specs.State.{Card, withTable, withFlags, withMessage}

@@ -5,6 +5,7 @@ use mathlib.Core.Path.{_≡_, refl}
 use mathlib.Core.Bool.{Bool, true, false, cond, _&&_}
 use mathlib.Core.List.{List}
 use Prim.Native.Nat.{ℕ, _<_}
+use Rattle.bus.specs.declared.word.Word.{Word}
 use Rattle.card.specs.Memory.{cardBlocks}
 use Rattle.queue.specs.declared.Queue.{Queue}
 use Rattle.queue.specs.Queue.{withJoined, fitQueue}
@@ -13,12 +14,11 @@ use Rattle.message.specs.declared.asked.Asked.{Asked}
 use Rattle.message.specs.declared.state.OpenMessage.{OpenMessage}
 use Rattle.message.specs.declared.state.Message.{Message}
 use Rattle.message.specs.declared.state.Message.the-variants.{Idle, Open}
+use Rattle.message.specs.Fitness.{fitMessage}
 use Rattle.terminal.specs.declared.state.Core.{Core}
-use Rattle.bus.specs.declared.word.Word.{Word}
 use Rattle.terminal.specs.State.{Card, card, withStatus, withLast, withSwitches, withMessage}
 use Rattle.terminal.specs.Opening.{openedCore, tableWordAt, openedAs, opening}
 use Rattle.terminal.specs.Closing.{closedQueue, closing, faulted, ended}
-use Rattle.message.specs.Fitness.{fitMessage}
 use Rattle.terminal.specs.Fitness.{fitCore}
 use Rattle.terminal_laws.proofs.FitParts.{
   addressed,

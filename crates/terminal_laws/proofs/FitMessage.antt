@@ -8,6 +8,7 @@ use native.Mathlib.Omega.{arith}
 use lib.Dec.{eqb, leb}
 use borrow.Author.Tests.{leb-false}
 use Rattle.rules.proofs.Cases.{both}
+use Rattle.bus.specs.declared.word.Word.{Word}
 use Rattle.card.specs.Memory.{cardBlocks, theBlock}
 use Rattle.card.specs.TableWord.{blockOf}
 use Rattle.message.specs.declared.state.Stage.{Stage}
@@ -22,13 +23,12 @@ use Rattle.message.specs.declared.state.Second.the-variants.{Absent, Command}
 use Rattle.message.specs.declared.state.OpenMessage.{OpenMessage}
 use Rattle.message.specs.declared.state.Message.{Message}
 use Rattle.message.specs.declared.state.Message.the-variants.{Idle, Open}
-use Rattle.terminal.specs.declared.state.Core.{Core}
-use Rattle.bus.specs.declared.word.Word.{Word}
 use Rattle.message.specs.Message.{further, movedMessage}
 use Rattle.message.specs.Asked.{askedOf, asks}
-use Rattle.terminal.specs.Opening.{openedMessage}
 use Rattle.message.specs.Words.{isSecond}
 use Rattle.message.specs.Fitness.{fitSecond, fitStage, fitOpen, fitMessage}
+use Rattle.terminal.specs.declared.state.Core.{Core}
+use Rattle.terminal.specs.Opening.{openedMessage}
 use Rattle.terminal_laws.proofs.FitParts.{addressed, isLegal, InStage, FitOpen}
 
 -- ---- the message that a word opens

@@ -13,10 +13,10 @@ use Rattle.queue.specs.Queue.{fitQueue}
 use Rattle.message.specs.declared.state.Stage.{Stage}
 use Rattle.message.specs.declared.state.OpenMessage.{OpenMessage}
 use Rattle.message.specs.declared.state.Message.the-variants.{Open}
-use Rattle.terminal.specs.declared.state.Core.{Core}
-use Rattle.terminal.specs.State.{Card}
 use Rattle.message.specs.Asked.{asks}
 use Rattle.message.specs.Fitness.{fitSecond, fitStage, fitOpen, fitMessage}
+use Rattle.terminal.specs.declared.state.Core.{Core}
+use Rattle.terminal.specs.State.{Card}
 use Rattle.terminal.specs.Fitness.{fitCore, fitCard}
 
 -- ---- an open message

@@ -2,8 +2,8 @@
 use mathlib.Core.Path.{_≡_}
 use mathlib.Core.Bool.{Bool, true, false, cond, not, Bool·beq}
 use Prim.Native.Nat.{ℕ}
-use Rattle.card.specs.Memory.{cardBlocks}
 use lib.Dec.{ltb}
+use Rattle.card.specs.Memory.{cardBlocks}
 use Rattle.message.specs.declared.asked.Asked.{Asked}
 use Rattle.message.specs.declared.judge.SilenceAct.the-variants.{Ignore, Fault, End}
 use Rattle.message.specs.declared.state.Stage.{Stage}
@@ -16,11 +16,11 @@ use Rattle.message.specs.declared.state.Stage.the-variants.{
 use Rattle.message.specs.declared.state.OpenMessage.{OpenMessage}
 use Rattle.message.specs.declared.state.Message.{Message}
 use Rattle.message.specs.declared.state.Message.the-variants.{Idle, Open}
-use Rattle.terminal.specs.State.{Card}
 use Rattle.message.specs.Asked.{asks}
 use Rattle.message.specs.Silence.{silenceInStage, onSilence}
-use Rattle.terminal.specs.SilenceStep.{silenceDone, silenceMet}
 use Rattle.message.specs.Fitness.{fitMessage}
+use Rattle.terminal.specs.State.{Card}
+use Rattle.terminal.specs.SilenceStep.{silenceDone, silenceMet}
 use Rattle.terminal_laws.proofs.FitParts.{InStage, FitOpen, fit-open-parts, FitCard}
 use Rattle.terminal_laws.proofs.FitMessage.{fits-awaiting}
 use Rattle.terminal_laws.proofs.FitChanges.{fit-going-on, fit-faulted, fit-ended}

@@ -7,6 +7,7 @@ use Prim.Native.Nat.{ℕ, _+_, _%_}
 use lib.Dec.{eqb}
 use Rattle.rules.proofs.Cases.{at-first}
 use Rattle.rules.proofs.Halves.{first-of-both, second-of-both}
+use Rattle.bus.specs.declared.word.Word.{Word}
 use Rattle.bus.specs.Command.{addressOf, isBroadcast}
 use Rattle.card.specs.Memory.{cardBlocks}
 use Rattle.message.specs.declared.judge.WordAct.{WordAct}
@@ -31,8 +32,6 @@ use Rattle.message.specs.declared.state.Second.the-variants.{Command}
 use Rattle.message.specs.declared.state.OpenMessage.{OpenMessage}
 use Rattle.message.specs.declared.state.Message.{Message}
 use Rattle.message.specs.declared.state.Message.the-variants.{Idle, Open}
-use Rattle.bus.specs.declared.word.Word.{Word}
-use Rattle.terminal.specs.State.{Card, withStatus, withMessage}
 use Rattle.message.specs.Message.{further, hasSecond}
 use Rattle.message.specs.Asked.{asks}
 use Rattle.message.specs.Words.{ownCommand}
@@ -46,10 +45,11 @@ use Rattle.message.specs.Words.{
   wordInStage,
   onWord,
 }
+use Rattle.message.specs.Fitness.{fitMessage}
+use Rattle.terminal.specs.State.{Card, withStatus, withMessage}
 use Rattle.terminal.specs.Closing.{closing, faulted}
 use Rattle.terminal.specs.Event.{opens, quietly}
 use Rattle.terminal.specs.WordStep.{wordDone, wordMet}
-use Rattle.message.specs.Fitness.{fitMessage}
 use Rattle.terminal_laws.proofs.FitParts.{
   addressed,
   isLegal,

@@ -20,6 +20,7 @@ use Rattle.message.specs.declared.judge.SilenceAct.the-variants.{Ignore, AwaitS
 use Rattle.message.specs.declared.state.OpenMessage.{OpenMessage}
 use Rattle.message.specs.declared.state.Message.the-variants.{Open}
 use Rattle.message.specs.Asked.{asks}
+use Rattle.message.proofs.AskedBounds.{sends-by-high-cell, cell-in-table}
 use Rattle.terminal.specs.declared.state.Reply.{Reply}
 use Rattle.terminal.specs.declared.state.Reply.the-variants.{Silent, Status, Words, Last}
 use Rattle.terminal.specs.declared.state.Answer.{Answer}
@@ -33,7 +34,6 @@ use Rattle.terminal.specs.Machine.{step}
 use Rattle.terminal_laws.specs.Closes.{silenceJudged}
 use Rattle.terminal_laws.specs.Written.{MayWrite, service-cell, table-cell}
 use Rattle.terminal_laws.proofs.OneBlock.Answers.{sent-at-most}
-use Rattle.message.proofs.AskedBounds.{sends-by-high-cell, cell-in-table}
 use Rattle.terminal_laws.proofs.StepFrame.{silence-step, step-writes-only}
 
 -- ---- the part that is sent

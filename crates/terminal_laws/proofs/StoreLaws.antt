@@ -8,6 +8,7 @@ use native.Mathlib.Omega.{arith}
 use lib.Dec.{leb}
 use borrow.Author.Tests.{leb-false}
 use Rattle.rules.proofs.Choices.{by-test}
+use Rattle.bus.specs.declared.word.Word.{Word}
 use Rattle.message.specs.declared.asked.Asked.{Asked}
 use Rattle.message.specs.declared.judge.WordAct.{WordAct}
 use Rattle.message.specs.declared.judge.WordAct.the-variants.{
@@ -28,13 +29,12 @@ use Rattle.message.specs.declared.state.Stage.the-variants.{
   Skipping,
 }
 use Rattle.message.specs.declared.state.OpenMessage.{OpenMessage}
-use Rattle.bus.specs.declared.word.Word.{Word}
 use Rattle.message.specs.Asked.{asks}
 use Rattle.message.specs.Words.{inData, inSecondCommand, inAwaitingStatus, wordInStage, onWord}
+use Rattle.message.proofs.AskedBounds.{takes-at-most, takes-with-block}
 use Rattle.terminal.specs.State.{Card}
 use Rattle.terminal_laws.specs.Closes.{wordJudged}
 use Rattle.terminal_laws.specs.Written.{Stores}
-use Rattle.message.proofs.AskedBounds.{takes-at-most, takes-with-block}
 
 -- ---- the tests of rules 1 to 8
 

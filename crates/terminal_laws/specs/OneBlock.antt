@@ -7,6 +7,7 @@ use mathlib.Core.List.{List, [], _∷_}
 use Prim.Native.Nat.{ℕ, _≤_, _<_}
 use lib.ListN.{length, getD, take, drop}
 use Rattle.bus.specs.declared.kind.Kind.the-variants.{Receive, ModeStatus, ModeLast}
+use Rattle.bus.specs.declared.word.Word.{Word}
 use Rattle.bus.specs.Kind.{kindOf}
 use Rattle.bus.specs.Status.{withoutError}
 use Rattle.card.specs.declared.place.Block.{Block}
@@ -16,7 +17,6 @@ use Rattle.queue.specs.declared.Queue.{Queue}
 use Rattle.message.specs.declared.state.OpenMessage.{OpenMessage}
 use Rattle.message.specs.declared.state.Message.{Message}
 use Rattle.message.specs.declared.state.Message.the-variants.{Idle, Open}
-use Rattle.bus.specs.declared.word.Word.{Word}
 use Rattle.terminal.specs.declared.state.Reply.the-variants.{Status, Words, Last}
 use Rattle.terminal.specs.declared.state.Answer.{Answer}
 use Rattle.terminal.specs.declared.state.Answer.the-variants.{Replied}

@@ -6,12 +6,12 @@ use mathlib.Core.Bool.{Bool, false}
 use mathlib.Core.List.{List}
 use Prim.Native.Nat.{ℕ, _+_, _≤_, _<_}
 use lib.ListN.{length, getD}
+use Rattle.bus.specs.declared.word.Word.{Word}
 use Rattle.card.specs.declared.place.Block.{Block}
 use Rattle.card.specs.declared.place.Cell.{Cell}
 use Rattle.card.specs.Memory.{blockCells, theCell, wordAddress}
 use Rattle.message.specs.declared.judge.WordAct.the-variants.{Store}
 use Rattle.message.specs.declared.state.OpenMessage.{OpenMessage}
-use Rattle.bus.specs.declared.word.Word.{Word}
 use Rattle.message.specs.Asked.{asks, keepsBack}
 use Rattle.terminal.specs.State.{Card}
 use Rattle.terminal.specs.Event.{

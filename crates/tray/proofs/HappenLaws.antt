@@ -7,11 +7,12 @@ use native.Mathlib.Omega.{arith}
 use lib.Dec.{eqb}
 use lib.ListN.{length, take, drop}
 use lib.Seq.{sets}
+use Rattle.bus.specs.declared.word.Word.{Word}
+use Rattle.bus.specs.Word.{wordOf}
 use Rattle.card.specs.Memory.{theBlock}
 use Rattle.queue.specs.declared.Ring.{Ring}
 use Rattle.queue.specs.declared.RingRead.{RingRead}
 use Rattle.queue.specs.Queue.{queue, emptyQueue, readFrom}
-use Rattle.bus.specs.declared.word.Word.{Word}
 use Rattle.message.specs.Message.{movedMessage}
 use Rattle.terminal.specs.declared.state.Core.{Core}
 use Rattle.terminal.specs.declared.state.Held.{Held}
@@ -36,7 +37,6 @@ use Rattle.terminal.specs.Machine.{
   moveTableStep,
   setFlagsStep,
 }
-use Rattle.bus.specs.Word.{wordOf}
 use Rattle.terminal.proofs.SilentLaws.{words-are-silent}
 use Rattle.recording.specs.declared.field.Field.{Field}
 use Rattle.recording.specs.declared.field.Field.the-variants as field

@@ -12,9 +12,9 @@ use Rattle.bus.specs.Limits.{isStation, areFlags, areMarks, isLine}
 use Rattle.card.specs.Memory.{cardBlocks, cardWords, theBlock, isBlock}
 use Rattle.card.specs.Host.{isWrite}
 use Rattle.terminal.specs.State.{Card}
-use Rattle.actions.specs.declared.Done.{Done}
 use Rattle.terminal.specs.Event.{Event}
 use Rattle.terminal_laws.specs.AtRest.{WholeAndFit}
+use Rattle.actions.specs.declared.Done.{Done}
 use Rattle.actions.specs.Actions.{
   After,
   withMemory,

@@ -8,6 +8,7 @@ use lib.ListN.{length}
 use borrow.Author.Tests.{lt-ltb, le-ltb}
 use Rattle.rules.proofs.Clash.{clash}
 use Rattle.terminal.specs.Event.{shown}
+use Rattle.terminal.specs.State.{cardOf}
 use Rattle.recording.specs.declared.field.Field.{Field}
 use Rattle.recording.specs.declared.seen.Seen.{Seen}
 use Rattle.recording.specs.declared.field.Field.the-variants.{HostWrite}
@@ -35,7 +36,6 @@ use Rattle.tray.specs.AsCoded.Window.{
   turn,
   isGoing,
 }
-use Rattle.terminal.specs.State.{cardOf}
 use Rattle.tray.specs.AsCoded.Held.{passedOf, WordsThere, WasRead}
 
 -- ---- a field that is taken

@@ -17,8 +17,8 @@ use Rattle.terminal.specs.Machine.{step, run}
 use Rattle.terminal.proofs.SilentLaws.{words-are-silent}
 use Rattle.recording.specs.declared.words.Found.{Found}
 use Rattle.recording.specs.declared.words.Found.the-variants.{Value, Nothing}
-use Rattle.recording.specs.Bytes.{timeAt}
 use Rattle.recording.specs.declared.seen.Seen.{Seen}
+use Rattle.recording.specs.Bytes.{timeAt}
 use Rattle.recording.specs.AsCoded.Found.{wordFound}
 use Rattle.recording.specs.Value.{valuedAt}
 use Rattle.recording.specs.Seen.{setupSeen}

@@ -7,11 +7,11 @@ use mathlib.Core.List.{List}
 use Prim.Native.Nat.{ℕ, _+_}
 use lib.Dec.{eqb}
 use lib.ListN.{drop}
-use Rattle.actions.specs.declared.Done.{Done}
 use Rattle.terminal.specs.declared.state.Reply.the-variants.{Silent}
 use Rattle.terminal.specs.declared.state.Answer.{Answer}
 use Rattle.terminal.specs.State.{Card, card}
 use Rattle.terminal.specs.Event.{replied, shown}
+use Rattle.actions.specs.declared.Done.{Done}
 use Rattle.actions.specs.Actions.{
   After,
   after,

@@ -3,6 +3,7 @@
 use mathlib.Core.List.{List, [], _∷_}
 use Prim.Native.Nat.{ℕ}
 use lib.Dec.{eqb}
+use Rattle.bus.specs.Word.{wordOf}
 use Rattle.card.specs.Memory.{theBlock}
 use Rattle.queue.specs.Queue.{emptyQueue}
 use Rattle.terminal.specs.declared.state.Reply.the-variants.{Silent}
@@ -21,7 +22,6 @@ use Rattle.terminal.specs.Event.{
   seen,
 }
 use Rattle.terminal.specs.Machine.{step}
-use Rattle.bus.specs.Word.{wordOf}
 use Rattle.recording.specs.Value.{Valued}
 use Rattle.recording.specs.Value as field
 

@@ -7,6 +7,7 @@ use mathlib.Core.List.{List, [], _∷_, _++_}
 use Prim.Native.Nat.{ℕ, _+_}
 use lib.ListN.{length}
 use Rattle.bus.specs.declared.kind.Kind.the-variants.{ModeStatus, ModeLast}
+use Rattle.bus.specs.declared.word.Word.{Word}
 use Rattle.bus.specs.Kind.{kindOf}
 use Rattle.bus.specs.Status.{withoutError}
 use Rattle.card.specs.declared.place.Block.{Block}
@@ -15,7 +16,6 @@ use Rattle.queue.specs.Queue.{emptyQueue}
 use Rattle.message.specs.declared.state.OpenMessage.{OpenMessage}
 use Rattle.message.specs.declared.state.Message.{Message}
 use Rattle.message.specs.declared.state.Message.the-variants.{Open}
-use Rattle.bus.specs.declared.word.Word.{Word}
 use Rattle.terminal.specs.State.{Card, card, coreAtSetup}
 use Rattle.terminal.specs.Event.{Event, word, seen}
 use Rattle.terminal.specs.Machine.{step, run}

@@ -4,8 +4,8 @@ use mathlib.Core.Path.{_≡_}
 use Prim.Native.Nat.{_-_, _≤_}
 use lib.ListN.{length}
 use borrow.Author.Needs.{needs}
-use Rattle.queue.proofs.QueueLaws.{Judging, judging-all, judging-less, judging-none}
 use Rattle.queue.specs.Queue.{fitPlaces}
+use Rattle.queue.proofs.QueueLaws.{Judging, judging-all, judging-less, judging-none}
 use Rattle.queue.proofs.places_fit.Statement.{statement}
 use Rattle.queue.proofs.places_fit.Tie as tie
 

@@ -7,13 +7,13 @@ use Prim.Native.Nat.{ℕ, _/_}
 use native.Mathlib.Omega.{arith}
 use Rattle.rules.proofs.Clash.{clash}
 use Rattle.bus.specs.declared.kind.Kind.the-variants.{Receive}
-use Rattle.bus.specs.Kind.{kindOf}
 use Rattle.bus.specs.declared.word.Word.{Word}
+use Rattle.bus.specs.Kind.{kindOf}
+use Rattle.bus.specs.Word.{wordOf}
 use Rattle.card.specs.declared.place.Block.{Block}
 use Rattle.terminal.specs.State.{Card}
 use Rattle.terminal.specs.Event.{Event, word, none, keeping, afresh}
 use Rattle.terminal.specs.Machine.{step, run}
-use Rattle.bus.specs.Word.{wordOf}
 use Rattle.terminal_laws.specs.OneBlock.{Kept, SameAfter, Calm, BothOver, Spared, ThatBlock}
 use Rattle.terminal_laws.proofs.OneBlock.Theorem.{one-block}
 use Rattle.runs.proofs.Telling.{runs, unsoundA, put, word1, word2, quiet, atSetup}

@@ -8,19 +8,19 @@ use Prim.Native.Nat.{ℕ}
 use native.Mathlib.Omega.{arith}
 use lib.ListN.{getD}
 use Rattle.rules.proofs.Clash.{clash}
+use Rattle.bus.specs.declared.word.Word.{Word}
+use Rattle.bus.specs.Word.{wordOf}
 use Rattle.card.specs.declared.place.Block.{Block}
 use Rattle.card.specs.Memory.{theBlock}
 use Rattle.queue.specs.declared.Queue.{Queue}
 use Rattle.message.specs.declared.state.Message.{Message}
 use Rattle.message.specs.declared.state.Message.the-variants.{Idle}
-use Rattle.bus.specs.declared.word.Word.{Word}
 use Rattle.terminal.specs.declared.state.Reply.the-variants.{Silent, Status, Words}
 use Rattle.terminal.specs.declared.state.Answer.{Answer}
 use Rattle.terminal.specs.declared.state.Answer.the-variants.{Replied}
 use Rattle.terminal.specs.State.{Card}
 use Rattle.terminal.specs.Event.{Event, word, silence, readQueue, none}
 use Rattle.terminal.specs.Machine.{step, run}
-use Rattle.bus.specs.Word.{wordOf}
 use Rattle.terminal_laws.specs.OneBlock.{
   SameAnswer,
   same,

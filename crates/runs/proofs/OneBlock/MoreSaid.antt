@@ -10,6 +10,7 @@ use lib.ListN.{getD}
 use Rattle.bus.specs.declared.kind.Kind.the-variants.{ModeStatus}
 use Rattle.bus.specs.Kind.{kindOf}
 use Rattle.bus.specs.Status.{withoutError}
+use Rattle.bus.specs.Word.{wordOf}
 use Rattle.card.specs.declared.place.Block.{Block}
 use Rattle.card.specs.declared.place.Cell.{Cell}
 use Rattle.card.specs.Memory.{theBlock, wordAddress}
@@ -22,7 +23,6 @@ use Rattle.terminal.specs.declared.state.Answer.the-variants.{Replied}
 use Rattle.terminal.specs.State.{Card}
 use Rattle.terminal.specs.Event.{Event, word}
 use Rattle.terminal.specs.Machine.{step, run}
-use Rattle.bus.specs.Word.{wordOf}
 use Rattle.terminal_laws.specs.OneBlock.{
   stillBefore,
   Calm,

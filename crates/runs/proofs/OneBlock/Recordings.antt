@@ -7,16 +7,14 @@ use lib.ListN.{getD, replicate}
 use Rattle.card.specs.Memory.{cardWords, theBlock}
 use Rattle.terminal.specs.Event.{Event, hostWrite, word}
 use Rattle.terminal_laws.specs.OneBlock.{Alike, ThatBlock}
+use Rattle.recording.specs.declared.seen.Seen.{Seen}
 use Rattle.recording.specs.Tag.{tagOf, lengthFits}
 use Rattle.recording.specs.Field.{fieldAt}
-use Rattle.recording.specs.declared.seen.Seen.{Seen}
 use Rattle.recording.specs.Seen.{nothingSeen, setupSeen}
 use Rattle.recording.specs.Reading.{readAt}
 use Rattle.recording.specs.Value.{Valued, valuedAt}
 use Rattle.recording.specs.Accepted.{no-more, a-field, Accepted}
 use Rattle.lines.specs.Lines.{statusLine, queueLine, endLine}
-use Rattle.runs.proofs.Telling.{runs}
-use Rattle.runs.proofs.OneBlock.Unsound.{met, command, sound, unsound, after, all-holds}
 use Rattle.tray.specs.Happening.{Happening, setup, event, happeningOf, happenings, happened}
 use Rattle.tray.specs.Run.{
   trayAtStart,
@@ -31,6 +29,8 @@ use Rattle.tray.specs.Run.{
 use Rattle.tray.specs.Told.{Tells}
 use Rattle.tray.specs.OneBlock.{events, cardAfter, BrokenRecording, SameRecordings}
 use Rattle.tray.proofs.OneBlock.Theorem.{whole-accepted, one-block-recordings}
+use Rattle.runs.proofs.Telling.{runs}
+use Rattle.runs.proofs.OneBlock.Unsound.{met, command, sound, unsound, after, all-holds}
 
 -- ---- the bytes
 

@@ -4,13 +4,13 @@
 use mathlib.Core.Path.{_≡_, refl}
 use mathlib.Core.List.{List, [], _∷_}
 use lib.ListN.{replicate}
+use Rattle.bus.specs.Word.{wordOf}
 use Rattle.card.specs.Memory.{theBlock}
 use Rattle.card.specs.Sent.{sentPart}
 use Rattle.terminal.specs.declared.state.Reply.the-variants.{Silent, Words, Last}
 use Rattle.terminal.specs.State.{Card}
 use Rattle.terminal.specs.Event.{Event, word, readQueue, replied, queueWord}
 use Rattle.terminal.specs.Machine.{run}
-use Rattle.bus.specs.Word.{wordOf}
 use Rattle.terminal_laws.specs.OneBlock.{
   nothing,
   a-word,

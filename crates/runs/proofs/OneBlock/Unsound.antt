@@ -4,6 +4,7 @@
 use mathlib.Core.Path.{_≡_, refl}
 use mathlib.Core.List.{List, [], _∷_}
 use Rattle.bus.specs.declared.word.Word.{Word}
+use Rattle.bus.specs.Word.{wordOf}
 use Rattle.card.specs.Memory.{theBlock}
 use Rattle.terminal.specs.declared.state.Reply.the-variants.{Silent, Status}
 use Rattle.terminal.specs.State.{Card}
@@ -16,7 +17,6 @@ use Rattle.terminal.specs.Event.{
   queueWord,
 }
 use Rattle.terminal.specs.Machine.{run}
-use Rattle.bus.specs.Word.{wordOf}
 use Rattle.terminal_laws.specs.OneBlock.{
   nothing,
   a-word,

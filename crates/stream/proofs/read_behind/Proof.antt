@@ -1,9 +1,9 @@
 -- `stream::read_behind` meets its contract, by the law of the part that was lent. Assumes nothing.
 use Prim.Native.Nat.{_-_}
 use lib.ListN.{length}
+use borrow.Author.Needs.{needs}
 use mir.Syntax.{w64}
 use mir.ValLaws.{toZ-ofZ}
-use borrow.Author.Needs.{needs}
 use Rattle.stream.proofs.GrownLaws.{grown-by}
 use Rattle.stream.proofs.read_behind.Statement.{statement}
 use Rattle.stream.proofs.read_behind.Tie as tie

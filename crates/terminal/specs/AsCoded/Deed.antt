@@ -2,6 +2,7 @@
 -- the cut that the code makes. What it comes to is said by `WordStep` and `SilenceStep`. Definitions
 -- only. Assumes nothing.
 use mathlib.Core.Bool.{Bool, true, false, cond}
+use Rattle.bus.specs.declared.word.Word.{Word}
 use Rattle.message.specs.declared.asked.Asked.{Asked}
 use Rattle.message.specs.declared.judge.WordAct.{WordAct}
 use Rattle.message.specs.declared.judge.WordAct.the-variants as word-acts
@@ -12,7 +13,6 @@ use Rattle.message.specs.declared.state.Second.the-variants.{Command}
 use Rattle.message.specs.declared.state.OpenMessage.{OpenMessage}
 use Rattle.message.specs.declared.state.Message.{Message}
 use Rattle.message.specs.declared.state.Message.the-variants.{Idle, Open}
-use Rattle.bus.specs.declared.word.Word.{Word}
 use Rattle.message.specs.Message.{further}
 use Rattle.message.specs.Asked.{asks}
 use Rattle.message.specs.Words.{ownCommand, onWord}

@@ -6,6 +6,7 @@ use mathlib.Core.Bool.{Bool, true, false, cond, not, Bool·beq, or-true}
 use Prim.Native.Nat.{ℕ}
 use Rattle.rules.proofs.Choices.{by-test}
 use Rattle.rules.proofs.Clash.{clash}
+use Rattle.bus.specs.declared.word.Word.{Word}
 use Rattle.message.specs.declared.asked.Asked.{Asked}
 use Rattle.message.specs.declared.judge.WordAct.{WordAct}
 use Rattle.message.specs.declared.judge.WordAct.the-variants.{
@@ -27,7 +28,6 @@ use Rattle.message.specs.declared.state.Stage.the-variants.{
 use Rattle.message.specs.declared.state.OpenMessage.{OpenMessage}
 use Rattle.message.specs.declared.state.Message.{Message}
 use Rattle.message.specs.declared.state.Message.the-variants.{Idle, Open}
-use Rattle.bus.specs.declared.word.Word.{Word}
 use Rattle.message.specs.Asked.{asks}
 use Rattle.message.specs.Words.{
   ownCommand,

@@ -18,8 +18,8 @@ use Rattle.message.specs.declared.state.OpenMessage.{OpenMessage}
 use Rattle.message.specs.declared.state.Message.{Message}
 use Rattle.message.specs.declared.state.Message.the-variants.{Idle, Open}
 use Rattle.message.specs.Asked.{askedBy, asks}
-use Rattle.message.proofs.AskedBounds.{sends-at-most}
 use Rattle.message.specs.Silence.{onSilence}
+use Rattle.message.proofs.AskedBounds.{sends-at-most}
 use Rattle.terminal.specs.declared.state.Core.{Core}
 use Rattle.terminal.specs.declared.state.Reply.{Reply}
 use Rattle.terminal.specs.declared.state.Reply.the-variants.{Silent, Status, Words, Last}

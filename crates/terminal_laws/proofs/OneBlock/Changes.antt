@@ -16,6 +16,7 @@ use Rattle.bus.specs.declared.kind.Kind.the-variants.{
   ModeReply,
   Illegal,
 }
+use Rattle.bus.specs.declared.word.Word.{Word}
 use Rattle.bus.specs.Kind.{kindOf}
 use Rattle.bus.specs.Status.{withError}
 use Rattle.card.specs.declared.place.Block.{Block}
@@ -26,7 +27,6 @@ use Rattle.message.specs.declared.asked.Asked.{Asked}
 use Rattle.message.specs.declared.state.OpenMessage.{OpenMessage}
 use Rattle.message.specs.declared.state.Message.{Message}
 use Rattle.message.specs.declared.state.Message.the-variants.{Open}
-use Rattle.bus.specs.declared.word.Word.{Word}
 use Rattle.message.specs.Asked.{askedBy, askedOf}
 use Rattle.message.proofs.AskedBounds.{cell-in-table}
 use Rattle.terminal.specs.declared.state.Core.{Core}

@@ -3,6 +3,7 @@
 use mathlib.Core.Path.{_≡_, refl}
 use mathlib.Core.Logic.{_≢_}
 use mathlib.Core.Bool.{Bool, true, false, cond}
+use Rattle.bus.specs.declared.word.Word.{Word}
 use Rattle.message.specs.declared.judge.WordAct.{WordAct}
 use Rattle.message.specs.declared.judge.WordAct.the-variants.{
   Ignore,
@@ -17,7 +18,6 @@ use Rattle.message.specs.declared.judge.WordAct.the-variants.{
 use Rattle.message.specs.declared.state.OpenMessage.{OpenMessage}
 use Rattle.message.specs.declared.state.Message.{Message}
 use Rattle.message.specs.declared.state.Message.the-variants.{Idle, Open}
-use Rattle.bus.specs.declared.word.Word.{Word}
 use Rattle.message.specs.Asked.{asks}
 use Rattle.message.specs.Words.{ownCommand, onWord}
 use Rattle.terminal.specs.State.{Card}

@@ -5,6 +5,7 @@ use mathlib.Core.Bool.{Bool, true, false, cond}
 use mathlib.Core.List.{List, [], _∷_}
 use Prim.Native.Nat.{ℕ, _<_}
 use Rattle.bus.specs.declared.kind.Kind.the-variants.{Receive}
+use Rattle.bus.specs.declared.word.Word.{Word}
 use Rattle.bus.specs.Kind.{kindOf}
 use Rattle.bus.specs.Status.{withoutError, withError}
 use Rattle.bus.proofs.StatusLaws.{without-error-of-with-error}
@@ -35,7 +36,6 @@ use Rattle.message.specs.declared.state.Second.{Second}
 use Rattle.message.specs.declared.state.Second.the-variants.{Command}
 use Rattle.message.specs.declared.state.OpenMessage.{OpenMessage}
 use Rattle.message.specs.declared.state.Message.the-variants.{Idle, Open}
-use Rattle.bus.specs.declared.word.Word.{Word}
 use Rattle.message.specs.Message.{further}
 use Rattle.message.specs.Asked.{askedBy, askedOf, asks}
 use Rattle.message.specs.Words.{ownCommand, onWord}

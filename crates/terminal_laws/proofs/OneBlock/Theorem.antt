@@ -5,12 +5,12 @@ use mathlib.Core.Path.{_≡_, refl, sym, ap, subst, _∙_}
 use mathlib.Core.Bool.{Bool, false}
 use mathlib.Core.List.{List, _∷_}
 use Rattle.bus.specs.declared.kind.Kind.the-variants.{Receive}
+use Rattle.bus.specs.declared.word.Word.{Word}
 use Rattle.bus.specs.Kind.{kindOf}
 use Rattle.card.specs.declared.place.Block.{Block}
 use Rattle.message.specs.declared.state.OpenMessage.{OpenMessage}
 use Rattle.message.specs.declared.state.Message.{Message}
 use Rattle.message.specs.declared.state.Message.the-variants.{Open}
-use Rattle.bus.specs.declared.word.Word.{Word}
 use Rattle.message.specs.Message.{further}
 use Rattle.terminal.specs.declared.state.Core.{Core}
 use Rattle.terminal.specs.State.{Card, card, withStatus, withMessage}

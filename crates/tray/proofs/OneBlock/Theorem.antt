@@ -5,9 +5,9 @@ use mathlib.Core.Bool.{true}
 use mathlib.Core.List.{List, [], _∷_, _++_, append-assoc}
 use Prim.Native.Nat.{ℕ}
 use lib.ListN.{replicate}
+use Rattle.bus.specs.declared.word.Word.{Word}
 use Rattle.card.specs.declared.place.Block.{Block}
 use Rattle.card.specs.Memory.{cardWords}
-use Rattle.bus.specs.declared.word.Word.{Word}
 use Rattle.terminal.specs.State.{Card}
 use Rattle.terminal.specs.Event.{Event, word}
 use Rattle.terminal.specs.Machine.{run}

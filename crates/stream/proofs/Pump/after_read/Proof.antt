@@ -1,8 +1,8 @@
 -- `stream::Pump::after_read` meets its contract. Assumes nothing.
 use native.Mathlib.Omega.{arith}
+use borrow.Author.Needs.{needs}
 use mir.Syntax.{w64}
 use mir.ValLaws.{toZ-ofZ}
-use borrow.Author.Needs.{needs}
 use Rattle.stream.proofs.Pump.after_read.Statement.{statement}
 use Rattle.stream.proofs.Pump.after_read.Tie as tie
 

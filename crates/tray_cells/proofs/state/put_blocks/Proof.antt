@@ -1,9 +1,9 @@
 -- `tray_cells::state::put_blocks` meets its contract. The invariant of its loop is
 -- `BlocksLeft`; the measure is how many blocks are left. Assumes nothing.
-use borrow.Author.Needs.{needs}
 use mathlib.Core.Path.{_≡_}
 use Prim.Native.Nat.{_-_, _≤_}
 use lib.ListN.{length}
+use borrow.Author.Needs.{needs}
 use Rattle.tray_cells.specs.Text.{fitted}
 use Rattle.tray_cells.specs.State.{blocksFrom, eachBlock}
 use Rattle.tray_cells.proofs.StateLaws.{BlocksLeft, blocks-all, blocks-less, blocks-none}
