@@ -22,7 +22,7 @@ use Rattle.tray.specs.Run.{
   wholeBy,
   wholeFrom,
 }
-use Rattle.runs.specs.Marked.{Cell, cell, Case, case, marked}
+use Rattle.runs.specs.Marked.{Holds, holds, Case, case, marked}
 use Rattle.runs.proofs.Telling.{runs}
 
 -- what is found where the table says what is wanted
@@ -31,7 +31,7 @@ found wanted =
     let all : Whole = wholeFrom trayAtStart (wanted .recording) in
     let card : Card = all .tray .card in
     case (wanted .recording) (all .text) (card .core .status)
-    (map (λ (at : Cell). cell (at .address) (getD (card .ram) (at .address) 0)) (wanted .cells))
+    (map (λ (at : Holds). holds (at .address) (getD (card .ram) (at .address) 0)) (wanted .cells))
 
 -- to unfold `all` is to unfold a tray run, from bytes to text
 unfoldable all : ℕ

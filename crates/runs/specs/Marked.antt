@@ -45,21 +45,21 @@ times (suc count) bytes = bytes ++ times count bytes
 -- ---- the table
 
 -- an address and the word in it
-pub record Cell : Type 0 where
+pub record Holds : Type 0 where
   pub address : ℕ
   pub word : ℕ
 
-abbrev pub cell : ℕ → ℕ → Cell
-cell address word = record { address = address; word = word }
+abbrev pub holds : ℕ → ℕ → Holds
+holds address word = record { address = address; word = word }
 
 -- a recording, the text that it prints, the remembered status and cells that it leaves
 pub record Case : Type 0 where
   pub recording : List ℕ
   pub text : List ℕ
   pub status : ℕ
-  pub cells : List Cell
+  pub cells : List Holds
 
-abbrev pub case : List ℕ → List ℕ → ℕ → List Cell → Case
+abbrev pub case : List ℕ → List ℕ → ℕ → List Holds → Case
 case recording text status cells =
     record { recording = recording; text = text; status = status; cells = cells }
 
@@ -77,37 +77,37 @@ marked =
     ∷ 81 ∷ 32 ∷ 56 ∷ 48 ∷ 48 ∷ 50 ∷ 10
     ∷ 69 ∷ 78 ∷ 68 ∷ 32 ∷ 56 ∷ 10 ∷ [])
     0x2800
-    (cell 128 0x1111 ∷ cell 129 0x2222 ∷ cell 186 0x0002 ∷ cell 187 0x0000 ∷ cell 188 0x0064
-    ∷ cell 189 0x003C ∷ cell 67 0x4003 ∷ [])
+    (holds 128 0x1111 ∷ holds 129 0x2222 ∷ holds 186 0x0002 ∷ holds 187 0x0000 ∷ holds 188 0x0064
+    ∷ holds 189 0x003C ∷ holds 67 0x4003 ∷ [])
     -- (b) the second data word unsound: no S
     ∷ case
     (tray ++ (command 0x2862 0 0x28 ++ (dataWord 0x1111 0x3C ++ (unsoundWord 0x2222 0x50
     ++ (silence 0 0x64 ++ readQueue)))))
     (queueLine 0x8002 ++ endLine 8)
     0x2C00
-    (cell 186 0x4101 ∷ cell 189 0x0028 ∷ cell 67 0x4003 ∷ [])
+    (holds 186 0x4101 ∷ holds 189 0x0028 ∷ holds 67 0x4003 ∷ [])
     -- (c) stamps FFFFFFF0, 00000010: 32 ticks
     ∷ case
     (tray ++ (command 0x2861 0xFFFF 0xFFF0 ++ (dataWord 0x1111 0 ++ silence 0 0x10)))
-    (statusLine 0x2800 [] ++ endLine 6) 0x2800 (cell 189 32 ∷ [])
+    (statusLine 0x2800 [] ++ endLine 6) 0x2800 (holds 189 32 ∷ [])
     -- (d) equal stamps: 0 ticks
     ∷ case
     (tray ++ (command 0x2861 0 0x64 ++ (dataWord 0x1111 0x64 ++ silence 0 0x64)))
-    (statusLine 0x2800 [] ++ endLine 6) 0x2800 (cell 189 0 ∷ [])
+    (statusLine 0x2800 [] ++ endLine 6) 0x2800 (holds 189 0 ∷ [])
     -- (e) count 0 wants 32: 32 words are sound, 31 are short, code 3
     ∷ case
     (tray ++ (command 0x2860 0 0x28 ++ (times 32 (dataWord 0x1111 0x3C) ++ (silence 0 0x64
     ++ (command 0x2860 0 0x70 ++ (times 31 (dataWord 0x2222 0x74) ++ silence 0 0x80))))))
     (statusLine 0x2800 [] ++ endLine 70)
     0x2C00
-    (cell 159 0x1111 ∷ cell 186 0x0020 ∷ cell 222 0x2222 ∷ cell 250 0x431F ∷ [])
+    (holds 159 0x1111 ∷ holds 186 0x0020 ∷ holds 222 0x2222 ∷ holds 250 0x431F ∷ [])
     -- (f) station 30 is taken, 31 refused 2
     ∷ case (setup 30 0 0) (endLine 1) 0xF000 []
     ∷ case (setup 31 0 0) (refusalLine 2 0) 0xF800 []
     -- (g) address 16,383 with one word is taken, with two refused 8
-    ∷ case (setup 5 1 0 ++ hostWrite 0x3FFF 0x1234) (endLine 2) 0x2800 (cell 16383 0x1234 ∷ [])
+    ∷ case (setup 5 1 0 ++ hostWrite 0x3FFF 0x1234) (endLine 2) 0x2800 (holds 16383 0x1234 ∷ [])
     ∷ case (setup 5 1 0 ++ twoWords 0x3FFF 0x1234 0x5678) (refusalLine 8 6) 0x2800
-    (cell 16383 0 ∷ [])
+    (holds 16383 0 ∷ [])
     -- (h) the queue holds 256: the 257th, of block 3, is lost and overflow set; block 2 links to
     -- itself until the host links it to block 3
     ∷ case
@@ -117,7 +117,7 @@ marked =
     (times 257 (statusLine 0x2800 (0 ∷ [])) ++ (times 256 (queueLine 0x8402)
     ++ (queueLine 0x0400 ++ endLine 775)))
     0x2800
-    (cell 97 0 ∷ cell 250 0x0001 ∷ [])
+    (holds 97 0 ∷ holds 250 0x0001 ∷ [])
     -- (i) an empty queue reads 0000
     ∷ case (setup 5 1 0 ++ readQueue) (queueLine 0x0000 ++ endLine 2) 0x2800 []
     -- (j) link 0103 names block 3
@@ -127,5 +127,5 @@ marked =
     ++ (command 0x2861 0 0x70 ++ (dataWord 0x2222 0x74 ++ silence 0 0x80))))))))
     (statusLine 0x2800 [] ++ (statusLine 0x2800 [] ++ endLine 9))
     0x2800
-    (cell 67 0 ∷ cell 128 0x1111 ∷ cell 192 0x2222 ∷ [])
+    (holds 67 0 ∷ holds 128 0x1111 ∷ holds 192 0x2222 ∷ [])
     ∷ []
