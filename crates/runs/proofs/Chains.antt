@@ -3,11 +3,11 @@
 -- computes. Assumes nothing.
 use mathlib.Core.Path.{_≡_, refl, ap}
 use mathlib.Core.Logic.{_≢_}
-use mathlib.Core.Bool.{Bool, true, false}
-use mathlib.Core.List.{List, [], _∷_}
+use mathlib.Core.Bool.{true, false}
+use mathlib.Core.List.{[], _∷_}
 use Prim.Native.Nat.{ℕ, _%_, _<_}
 use native.Mathlib.Omega.{arith}
-use lib.ListN.{length, replicate}
+use lib.ListN.{length}
 use Rattle.rules.proofs.Clash.{clash}
 use Rattle.bus.specs.declared.word.Word.{Word}
 use Rattle.bus.specs.Word.{wordOf}
@@ -15,12 +15,11 @@ use Rattle.card.specs.declared.place.Block.{Block}
 use Rattle.card.specs.declared.place.Cell.{Cell}
 use Rattle.card.specs.Memory.{blockCells, theBlock, theCell, cellAt}
 use Rattle.card.specs.TableWord.{blockOf}
-use Rattle.queue.specs.Queue.{emptyQueue}
 use Rattle.message.specs.declared.state.Second.the-variants.{Absent}
 use Rattle.message.specs.declared.state.Stage.the-variants.{Data}
 use Rattle.message.specs.declared.state.OpenMessage.{OpenMessage}
 use Rattle.message.specs.declared.state.Message.the-variants.{Open}
-use Rattle.terminal.specs.State.{Card, card, coreAtSetup}
+use Rattle.terminal.specs.State.{Card}
 use Rattle.terminal.specs.Event.{Event, word, readQueue, moveTable, afresh}
 use Rattle.terminal.specs.Machine.{step, run}
 use Rattle.terminal_laws.specs.Closes.{
@@ -58,43 +57,7 @@ use Rattle.runs.proofs.Telling.{
   word2,
   quiet,
 }
-
--- ---- document 01's run, on a card of four blocks
-
--- station 5, table block 1, memory of so many words, all zero; then some events
-unfoldable small : ℕ → List Event → Card
-small words events =
-    run events
-    (card (coreAtSetup 5 (theBlock 1) 0) emptyQueue (replicate words 0))
-
--- four blocks: table cell 3 names block 2, whose link is 4003
-abbrev fourBlocks : List Event → Card
-fourBlocks events = small 256 (put 1 3 0x4002 ∷ put 2 63 0x4003 ∷ events)
-
--- the message of the receive command there, by whether the host has set the table block since, and
--- the words taken
-abbrev received : Bool → ℕ → OpenMessage
-received moved taken =
-    record {
-      command = 0x2862;
-      line = false;
-      block = theBlock 2;
-      table = theBlock 1;
-      moved = moved;
-      busy = false;
-      queued = true;
-      opened = 0x28;
-      taken = taken;
-      second = Absent;
-      stage = Data;
-    }
-
--- with one data word, and with both
-abbrev begun : Card
-begun = fourBlocks (receive ∷ word1 ∷ [])
-
-abbrev filled : Card
-filled = fourBlocks (receive ∷ word1 ∷ word2 ∷ [])
+use Rattle.runs.proofs.FourBlocks.{small, fourBlocks, received, begun, filled}
 
 -- the same command once more
 abbrev again : Word
