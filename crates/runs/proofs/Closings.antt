@@ -15,7 +15,8 @@ use Rattle.terminal.specs.State.{Card}
 use Rattle.terminal.specs.Event.{Event}
 use Rattle.terminal.specs.Machine.{step}
 use Rattle.terminal_laws.specs.Closes.{Closes, by-sound-end}
-use Rattle.terminal_laws.proofs.ClosedCells.{TableElsewhere, closing-keeps-data}
+use Rattle.terminal_laws.specs.Written.{TableElsewhere}
+use Rattle.terminal_laws.proofs.ClosedCells.{closing-keeps-data}
 use Rattle.runs.proofs.Telling.{runs, put, receive, word1, word2, quiet}
 use Rattle.runs.proofs.FourBlocks.{small, receivedIn, received, begun, filled}
 

@@ -2,7 +2,6 @@
 -- as `closedRam` has it, `closed-ram`, as long as it was, and the data cells of the message's block
 -- are kept, `closing-keeps-data`, unless the table is that block. Assumes nothing.
 use mathlib.Core.Path.{_≡_, ap, _∙_}
-use mathlib.Core.Logic.{_≢_}
 use mathlib.Core.Bool.{true, false}
 use mathlib.Core.List.{List}
 use Prim.Native.Nat.{ℕ, _≤_, _<_}
@@ -30,7 +29,7 @@ use Rattle.terminal_laws.specs.Closes.{
   by-silence,
   by-sound-end,
 }
-use Rattle.terminal_laws.specs.Written.{WritesOnly}
+use Rattle.terminal_laws.specs.Written.{TableElsewhere, WritesOnly}
 use Rattle.terminal_laws.proofs.StepFrame.{word-step, silence-step, written-closing}
 
 -- ---- whatever closes the message
@@ -72,11 +71,6 @@ data InClosing (asked : Asked) (message : OpenMessage) (address : ℕ) : Type 0 
       → address ≡ wordAddress (message .block) cell → InClosing asked message address
   in-table : asked .block ≡ true → message .moved ≡ false
       → address ≡ wordAddress (message .table) (asked .cell) → InClosing asked message address
-
--- the table cell that a closing writes is in another block than its message's
-abbrev pub TableElsewhere : Asked → OpenMessage → Type 0
-TableElsewhere asked message =
-    asked .block ≡ true → message .moved ≡ false → message .block ≢ message .table
 
 module _ (asked : Asked) (state time : ℕ) (message : OpenMessage) (ram : List ℕ) where
   closed-writes : WritesOnly (InClosing asked message) ram (closedRam asked state time message ram)

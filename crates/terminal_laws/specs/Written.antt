@@ -2,7 +2,8 @@
 -- terminal never writes other cells of a message's block, save the table cell where that block is
 -- the table. Definitions only; proved in `proofs/StepFrame`. Assumes nothing.
 use mathlib.Core.Path.{_≡_}
-use mathlib.Core.Bool.{Bool, false}
+use mathlib.Core.Logic.{_≢_}
+use mathlib.Core.Bool.{Bool, true, false}
 use mathlib.Core.List.{List}
 use Prim.Native.Nat.{ℕ, _+_, _≤_, _<_}
 use lib.ListN.{length, getD}
@@ -10,6 +11,7 @@ use Rattle.bus.specs.declared.word.Word.{Word}
 use Rattle.card.specs.declared.place.Block.{Block}
 use Rattle.card.specs.declared.place.Cell.{Cell}
 use Rattle.card.specs.Memory.{blockCells, theCell, wordAddress}
+use Rattle.message.specs.declared.asked.Asked.{Asked}
 use Rattle.message.specs.declared.judge.WordAct.the-variants.{Store}
 use Rattle.message.specs.declared.state.OpenMessage.{OpenMessage}
 use Rattle.message.specs.Asked.{asks, keepsBack}
@@ -28,6 +30,11 @@ use Rattle.terminal_laws.specs.Closes.{OpenWithBlock, wordJudged, Closes
 -- the address of a message's table cell: in the table block of its opening
 abbrev pub tableAddress : OpenMessage → ℕ
 tableAddress message = wordAddress (message .table) (asks message .cell)
+
+-- the table cell that a closing writes is in another block than its message's
+abbrev pub TableElsewhere : Asked → OpenMessage → Type 0
+TableElsewhere asked message =
+    asked .block ≡ true → message .moved ≡ false → message .block ≢ message .table
 
 -- rule 8 stores the word in the next cell, which is a data cell; under busy data nothing is stored
 pub record Stores (old : Card) (message : OpenMessage) (heard : Word) : Type 0 where
