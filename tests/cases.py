@@ -119,6 +119,14 @@ check("(b)", hexes("01 0003 05 01 00; 05 0004 0043 4002; 05 0004 00BF 4003; 02 0
       {67: 0x4003, 128: 0x1111, 186: 0x4101, 188: 0x50, 189: 0x28, 191: 0x4003})
 check("open line", EXAMPLE[:EXAMPLE.index(bytes.fromhex("0200070C2222"))], ["END 5"],
       ["open 2862 line A block 2 table 1 moved 0 busy 0 queued 1 opened 00000028 taken 1 second none stage data"])
+BUSY = setup() + write(64 + 3, 0x8002) + command(receive(3, 12), 0x00ABCDEF, line=1)
+check("open line, second command", BUSY + command(transmit(9, 12, 6), 0x00ABCDF0, line=1, joined=1)
+      + silence(0x00ABCDF1, line=1), ["END 5"],
+      ["open 286C line B block 2 table 1 moved 0 busy 1 queued 0 opened 00ABCDEF "
+       "taken 0 second 352C stage awaiting"])
+check("open line, ten words", BUSY + 10 * data(0x1111, 0x00ABCDF0, line=1), ["END 13"],
+      ["open 286C line B block 2 table 1 moved 0 busy 1 queued 0 opened 00ABCDEF "
+       "taken 10 second none stage data"], {67: 0x8002})
 BASE = setup() + write(64 + 3, 0x4002) + write(2 * 64 + 63, 0x4003)
 check("(c) over the top", BASE + command(receive(3, 1), 0xFFFFFFF0) + data(7, 0) + silence(0x10), ["S 2800", "END 6"],
       only={186: 1, 187: 0, 188: 0x10, 189: 32})

@@ -10,14 +10,7 @@ use lib.Dec.{leb}
 use lib.ListN.{length, take, drop}
 use borrow.Author.Tests.{eq-eqb, ne-eqb, le-leb, lt-leb, lt-ltb, le-ltb}
 use Rattle.card.specs.declared.place.Block.{Block}
-use Rattle.card.specs.Memory.{
-  dataCells,
-  cardBlocks,
-  wordsIn,
-  theCell,
-  isBlock,
-  wordAddress,
-}
+use Rattle.card.specs.Memory.{dataCells, wordsIn, theCell, isBlock, wordAddress}
 use Rattle.card.specs.Sent.{sentRefusal, sentPart}
 
 -- what is asked of a part that is shown
@@ -69,27 +62,27 @@ module _ (blocks size : ℕ) (block : Block) (count : ℕ) where
       ] in
       record { whole-card = whole-card; on-card = on-card; some = some; at-most = at-most }
 
-module _ (ram : List ℕ) (block : Block) (count number : ℕ)
-    (asked : number ≡ sentRefusal cardBlocks (length ram) block count) where
-  pub part-refused : (number ≡ 0 → ⊥) → [] ≡ sentPart ram block count
+module _ (blocks : ℕ) (ram : List ℕ) (block : Block) (count number : ℕ)
+    (asked : number ≡ sentRefusal blocks (length ram) block count) where
+  pub part-refused : (number ≡ 0 → ⊥) → [] ≡ sentPart blocks ram block count
   unfolding sentPart
   part-refused refused =
-      rw (ne-eqb (sentRefusal cardBlocks (length ram) block count) 0 (rw asked at refused))
+      rw (ne-eqb (sentRefusal blocks (length ram) block count) 0 (rw asked at refused))
 
   module _ (start : ℕ) where
     pub part-ends : number ≡ 0 → start ≡ wordAddress block (theCell 0) → start + count ≤ length ram
     part-ends none starts =
-        omega (arith, shown cardBlocks (length ram) block count (sym asked ∙ none))
+        omega (arith, shown blocks (length ram) block count (sym asked ∙ none))
 
     pub part-shown : number ≡ 0 → start ≡ wordAddress block (theCell 0)
-        → take (start + count - start) (drop start ram) ≡ sentPart ram block count
+        → take (start + count - start) (drop start ram) ≡ sentPart blocks ram block count
     unfolding sentPart
     part-shown none starts =
         let long : start + count - start ≡ count = omega arith in
         rw (
           long,
           starts,
-          eq-eqb (sentRefusal cardBlocks (length ram) block count) 0 (sym asked ∙ none),
+          eq-eqb (sentRefusal blocks (length ram) block count) 0 (sym asked ∙ none),
         )
 
 pub ruleset parts = (part-refused, part-ends, part-shown)

@@ -5,7 +5,7 @@ use Prim.Native.Nat.{ℕ}
 use lib.Dec.{eqb, leb}
 use lib.ListN.{length, take, drop}
 use Rattle.card.specs.declared.place.Block.{Block}
-use Rattle.card.specs.Memory.{dataCells, cardBlocks, wordsIn, theCell, isBlock, wordAddress}
+use Rattle.card.specs.Memory.{dataCells, wordsIn, theCell, isBlock, wordAddress}
 
 -- 1 where the RAM is not that of so many blocks; 8 where the block is none of them or the count not
 -- 1 to 32
@@ -15,9 +15,9 @@ sentRefusal blocks size block count =
     (cond (isBlock blocks block && leb 1 count && leb count dataCells) 0 8)
     1
 
--- the words from the block's cell 0 on; none where the part is refused
-unfoldable pub sentPart : List ℕ → Block → ℕ → List ℕ
-sentPart ram block count =
-    cond (eqb (sentRefusal cardBlocks (length ram) block count) 0)
+-- the words from the block's cell 0 on, on a card of so many blocks; none where the part is refused
+unfoldable pub sentPart : ℕ → List ℕ → Block → ℕ → List ℕ
+sentPart blocks ram block count =
+    cond (eqb (sentRefusal blocks (length ram) block count) 0)
     (take count (drop (wordAddress block (theCell 0)) ram))
     []

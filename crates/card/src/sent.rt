@@ -5,7 +5,6 @@ ghost use Rattle.card.specs.Sent.{sentRefusal, sentPart};
 use crate::place;
 use crate::place::BLOCK_CELLS;
 use crate::place::Block;
-use crate::place::CARD_BLOCKS;
 use crate::place::Cell;
 use crate::place::DATA_CELLS;
 
@@ -31,10 +30,10 @@ pub fn refusal(ram: &[u16], blocks: u16, block: Block, count: u16) -> u8
 }
 
 // The part itself, empty where it is refused.
-pub fn part(ram: &[u16], block: Block, count: u16) -> &[u16]
-    ensures { λ words. ⌜ now words ≡ sentPart (now (ram .entry)) block count ⌝ }
+pub fn part(ram: &[u16], blocks: u16, block: Block, count: u16) -> &[u16]
+    ensures { λ words. ⌜ now words ≡ sentPart blocks (now (ram .entry)) block count ⌝ }
 {
-    if refusal(ram, CARD_BLOCKS, block, count) != 0 {
+    if refusal(ram, blocks, block, count) != 0 {
         return &ram[0..0];
     }
     let start = place::word_address(block, Cell(0));

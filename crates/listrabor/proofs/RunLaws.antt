@@ -13,7 +13,7 @@ use Rattle.tray.specs.declared.window.Passed.{Passed as HeldPassed}
 use Rattle.tray.specs.Run.{Tray, trayOver}
 use Rattle.tray.specs.AsCoded.Window.{Passed, windowRun, wholeRoom, mostTurns}
 use Rattle.tray.specs.AsCoded.Held.{trayOf, heldAtStart, passedOf}
-use Rattle.tray.proofs.RoomLaws.{whole-tray, whole-count, whole-bytes}
+use Rattle.tray_laws.proofs.RoomLaws.{whole-tray, whole-count, whole-bytes}
 use Rattle.listrabor.specs.Lent.{sizeRefusal, lent, lentRun}
 use Rattle.listrabor.proofs.TextLaws.{used, refused-answers-0}
 

@@ -8,7 +8,7 @@ use lib.Seq.{sets}
 use borrow.Author.Tests.{eq-eqb, ne-eqb}
 use Rattle.card.specs.Memory.{cardWords}
 use Rattle.tray.specs.Run.{trayOver, trayAtStart, wholeFrom, printed}
-use Rattle.tray.proofs.PrintedLaws.{text-not-empty}
+use Rattle.tray_laws.proofs.PrintedLaws.{text-not-empty}
 use Rattle.listrabor.specs.Lent.{sizeRefusal, lent, lentAfter, lentRun}
 
 module _ (recording ram out : List ℕ) where

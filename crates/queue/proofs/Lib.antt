@@ -2,8 +2,6 @@
 --     QueueLaws     joining and reading on each way that the code takes; the scan for fitness
 --     FitLaws       a fit queue stays fit
 --     Determined    each public contract allows one outcome alone
---     Examples      what no run shows, by computation
 pub mod QueueLaws
 pub mod FitLaws
 pub mod Determined
-mod Examples

@@ -23,7 +23,7 @@ use Rattle.tray.specs.Run.{
   wholeBy,
   wholeFrom,
 }
-use Rattle.tray.specs.Answered.{
+use Rattle.tray_laws.specs.Answered.{
   toldLines,
   toldCard,
   trayAfter,

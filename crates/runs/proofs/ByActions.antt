@@ -17,7 +17,7 @@ use Rattle.recording.specs.Field.{fieldAt}
 use Rattle.recording.specs.Seen.{setupSeen}
 use Rattle.recording.specs.Reading.{readAt}
 use Rattle.tray.specs.Run.{Tray, trayOver, trayAtStart, Whole, wholeFrom}
-use Rattle.tray.specs.ByActions.{
+use Rattle.tray_laws.specs.ByActions.{
   actionOf,
   firstField,
   trayWith,
@@ -26,7 +26,7 @@ use Rattle.tray.specs.ByActions.{
   ends,
   refuses,
 }
-use Rattle.tray.proofs.ByActions.{run-by-actions}
+use Rattle.tray_laws.proofs.ByActions.{run-by-actions}
 use Rattle.runs.proofs.Telling.{runs}
 
 -- ---- recordings

@@ -17,7 +17,7 @@ use Rattle.tray.specs.declared.window.Stop.the-variants.{Going, Hungry, Full, O
 use Rattle.tray.specs.Run.{Tray}
 use Rattle.tray.specs.AsCoded.Window.{Passed, isGoing, windowRun, keptRest}
 use Rattle.tray.specs.AsCoded.Held.{trayOf, passedOf}
-use Rattle.tray.proofs.EndLaws.{call-inside, call-stops, full-after-a-field}
+use Rattle.tray_laws.proofs.EndLaws.{call-inside, call-stops, full-after-a-field}
 use Rattle.stream.specs.declared.Pump.{Pump}
 use Rattle.stream.specs.AsCoded.Turns.{
   Buffers,

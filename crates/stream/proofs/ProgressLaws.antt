@@ -8,8 +8,8 @@ use native.Mathlib.Omega.{arith}
 use lib.ListN.{length, drop, length-append, length-drop}
 use Rattle.tray.specs.declared.window.Stop.the-variants.{Hungry}
 use Rattle.tray.specs.Run.{Tray}
-use Rattle.tray.specs.AsCoded.Pieces.{Streamed, begins, reads, ends, calls}
-use Rattle.tray.proofs.EndLaws.{call-within, last-call-waits-not}
+use Rattle.tray_laws.specs.AsCoded.Pieces.{Streamed, begins, reads, ends, calls}
+use Rattle.tray_laws.proofs.EndLaws.{call-within, last-call-waits-not}
 use Rattle.stream.specs.Progress.{
   Far,
   callAt,

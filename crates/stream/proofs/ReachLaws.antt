@@ -20,14 +20,14 @@ use Rattle.tray.specs.declared.window.Stop.{Stop}
 use Rattle.tray.specs.declared.window.Stop.the-variants.{Going, Hungry, Full, Over}
 use Rattle.tray.specs.Run.{Tray, wholeOf, wholeBy, wholeFrom}
 use Rattle.tray.specs.AsCoded.Window.{Passed, isGoing, mostTurns, stoppedAt, passing, windowRun}
-use Rattle.tray.proofs.EndLaws.{
+use Rattle.tray_laws.proofs.EndLaws.{
   turns-keep,
   by-turn,
   call-stops,
   call-within,
   full-after-a-field,
 }
-use Rattle.tray.proofs.RoomLaws.{over-at-once, whole-tray}
+use Rattle.tray_laws.proofs.RoomLaws.{over-at-once, whole-tray}
 use Rattle.stream.specs.Progress.{farAtStart, afterCall, atEnd, starts, finds-end}
 use Rattle.stream.specs.Came.{Came, finished, unread}
 use Rattle.stream.proofs.RoomLaws.{full-over, going-over, hungry-over}

@@ -31,7 +31,7 @@ use Rattle.tray.specs.AsCoded.Window.{
   mostTurns,
   windowRun,
 }
-use Rattle.tray.proofs.EndLaws.{turns-keep, by-turn}
+use Rattle.tray_laws.proofs.EndLaws.{turns-keep, by-turn}
 
 -- ---- reasons differ
 

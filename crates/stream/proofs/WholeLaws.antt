@@ -9,10 +9,10 @@ use lib.ListN.{length}
 use Rattle.rules.proofs.Clash.{clash}
 use Rattle.tray.specs.declared.window.Stop.the-variants.{Over}
 use Rattle.tray.specs.Run.{Tray, trayAtStart, whole, wholeFrom}
-use Rattle.tray.specs.AsCoded.Pieces.{linesPut, Streamed, begins, reads, ends, calls, Finished}
+use Rattle.tray_laws.specs.AsCoded.Pieces.{linesPut, Streamed, begins, reads, ends, calls, Finished}
 use Rattle.tray.specs.AsCoded.Window.{windowRun}
-use Rattle.tray.proofs.EndLaws.{unread-untouched}
-use Rattle.tray.proofs.PieceLaws.{finished-prints}
+use Rattle.tray_laws.proofs.EndLaws.{unread-untouched}
+use Rattle.tray_laws.proofs.PieceLaws.{finished-prints}
 use Rattle.stream.specs.Progress.{Far, Progressed}
 use Rattle.stream.specs.Came.{
   LastCall,

@@ -9,7 +9,7 @@ use lib.ListN.{length, drop}
 use Rattle.tray.specs.declared.window.Stop.the-variants.{Hungry, Full}
 use Rattle.tray.specs.Run.{Tray}
 use Rattle.tray.specs.AsCoded.Window.{Passed, windowRun}
-use Rattle.tray.specs.AsCoded.Pieces.{linesPut}
+use Rattle.tray_laws.specs.AsCoded.Pieces.{linesPut}
 
 -- the window has so many bytes, and so has the buffer for the lines
 abbrev pub bufferBytes : ℕ

@@ -12,6 +12,7 @@
 --     StepFrame     what an event leaves alone: every cell that it may not write
 --     ClosedCells   what a closing makes of memory: data cells and length are kept
 --     RestLaws      whole and fit, or at rest, a card stays so; its blocks lie in memory
+--     StatusLaws    the remembered status keeps its station's address
 --     OtherCells    .. and so the other cells of a message's block, and other blocks
 --     ClosesLaws    an open message closes, is dropped, or stays open as it was opened
 --     ReplyLaws     the words that a reply sends are those in memory at the silence
@@ -29,6 +30,7 @@ pub mod OneBlock
 pub mod StepFrame
 pub mod ClosedCells
 pub mod RestLaws
+pub mod StatusLaws
 pub mod OtherCells
 pub mod ClosesLaws
 pub mod ReplyLaws

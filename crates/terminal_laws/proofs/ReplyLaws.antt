@@ -12,7 +12,7 @@ use Rattle.rules.proofs.Choices.{by-test}
 use Rattle.rules.proofs.Clash.{clash}
 use Rattle.card.specs.declared.place.Block.{Block}
 use Rattle.card.specs.declared.place.Cell.{Cell}
-use Rattle.card.specs.Memory.{wordAddress, cellAt}
+use Rattle.card.specs.Memory.{cardBlocks, wordAddress, cellAt}
 use Rattle.card.specs.Sent.{sentPart}
 use Rattle.card.proofs.CellLaws.{part-of-same-cells}
 use Rattle.message.specs.declared.judge.SilenceAct.{SilenceAct}
@@ -41,7 +41,7 @@ use Rattle.terminal_laws.proofs.StepFrame.{silence-step, step-writes-on
 -- the same words in the cells make the same part
 same-sent : (ram other : List ℕ) (block : Block) (count : ℕ) → length ram ≡ length other
     → ((cell : Cell) → cell .0 < count → cellAt ram block cell ≡ cellAt other block cell)
-    → sentPart ram block count ≡ sentPart other block count
+    → sentPart cardBlocks ram block count ≡ sentPart cardBlocks other block count
 unfolding sentPart
 same-sent ram other block count long cells =
     rw (long, part-of-same-cells ram other block count long cells) refl

@@ -37,7 +37,7 @@ nothing-written out at =
 
 -- no reply sends more than 32 words
 pub few-sent : (ram : List ℕ) (block : Block) (count : ℕ)
-    → length (sentPart ram block count) ≤ mostWords
+    → length (sentPart cardBlocks ram block count) ≤ mostWords
 unfolding sentPart
 few-sent ram block count = go (eqb number 0) refl where
   number : ℕ
@@ -67,11 +67,11 @@ module _ (out : List ℕ) (at : ℕ) (ram : List ℕ) (reply : Reply) where
 
     pub words-line : (status : ℕ) (block : Block) (count : ℕ) (words : List ℕ)
         → reply ≡ Words status block count
-        → words ≡ sentPart ram block count
+        → words ≡ sentPart cardBlocks ram block count
         → put next after ≡ statusWritten out at status words → put next after ≡ wanted
     words-line status block count words is is-words is-put =
         rw (is, is-put, is-words)
-        (few-words out at status (sentPart ram block count) (few-sent ram block count))
+        (few-words out at status (sentPart cardBlocks ram block count) (few-sent ram block count))
 
     pub last-line : (status command : ℕ) → reply ≡ Last status command
         → put next after ≡ statusWritten out at status (command ∷ []) → put next after ≡ wanted

@@ -3,8 +3,6 @@
 --     Window    a call over a window, its lines in a lent buffer
 --     Held      what the code holds of a run
 --     Row       a row of data words, taken at once
---     Pieces    a recording that comes in pieces
 pub mod Window
 pub mod Held
 pub mod Row
-pub mod Pieces

@@ -2,6 +2,7 @@
 ghost use mathlib.Core.Path.{_≡_};
 ghost use Rattle.lines.specs.Written.{put, lineWritten};
 ghost use Rattle.tray.specs.Run.{replyLine, answerLine, lastLine};
+use card::place::CARD_BLOCKS;
 use card::sent;
 use lines;
 use terminal::state::Answer;
@@ -20,7 +21,7 @@ fn put_reply(out: &mut [u8], at: usize, ram: &[u16], reply: Reply) -> usize
             status,
             block,
             count,
-        } => lines::status_line(out, at, status, sent::part(ram, block, count)),
+        } => lines::status_line(out, at, status, sent::part(ram, CARD_BLOCKS, block, count)),
         Reply::Last { status, command } => {
             let words: [u16; 1] = [command];
             lines::status_line(out, at, status, &words)

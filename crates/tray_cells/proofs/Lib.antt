@@ -4,7 +4,7 @@
 --     CellLaws       the loop over the card's cells
 --     RoomLaws       both texts have room in the program's buffer: nothing is cut
 --     Determined     each public contract allows one outcome alone
---     Examples       an open message and a text that is cut, by computation
+--     Examples       a text that is cut, by computation
 pub mod TextLaws
 pub mod StateLaws
 pub mod CellLaws

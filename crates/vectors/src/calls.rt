@@ -1,8 +1,8 @@
-// A call of one of the library's actions: its refusal, and the terminal that it leaves. What is
-// refused leaves the RAM as it was given, and no call here changes the queue's places. The words of
-// a row: action, two arguments, words of RAM, refusal, 0 for none; then the terminal (`given`). On
-// the next line, behind an equals sign, the terminal that is left: station, table block, flags,
-// queue start, then as a recording leaves it. Actions:
+// A call of one of the library's actions: its refusal, and what it leaves. The words of a row:
+// action, two arguments, words of RAM, refusal, 0 for none; then the terminal (`given`). Behind an
+// equals sign comes what is left, up to the next remark: station, table block, flags, queue start,
+// then as a recording leaves it; and every place of the queue and every word of the RAM that is not
+// as it was given. Actions:
 //
 //     0  setup, of the terminal's station, table block and flags
 //     1  a word 2C61: its marks    2  silence: line    3  host write: address, count of words
@@ -60,7 +60,7 @@ fn part(given: Terminal, ram: &[u16], row: &[u8]) -> Done {
     let block = Block(notation::word_in(row, 1));
     let count = notation::word_in(row, 2);
     let number = sent::refusal(ram, CARD_BLOCKS, block, count);
-    let shown = sent::part(ram, block, count).len();
+    let shown = sent::part(ram, CARD_BLOCKS, block, count).len();
     let right = ((number == 0) & (shown == count as usize)) | ((number != 0) & (shown == 0));
     Done {
         refusal: number_if(right, number),
@@ -106,19 +106,10 @@ fn perform(given: Terminal, ram: &mut [u16], row: &[u8]) -> Done {
 
 // ---- what is left
 
-// Whether every word of a row of words is the same as another.
-fn all_are(words: &[u16], wanted: u16) -> bool {
-    let mut word: usize = 0;
-    while word < words.len() {
-        if words[word] != wanted {
-            return false;
-        }
-        word += 1;
-    }
-    true
-}
+// What every word of the RAM is before a call.
+const GIVEN: u16 = 0x1234;
 
-fn put_terminal(out: &mut [u8], terminal: Terminal) -> usize {
+fn put_left(out: &mut [u8], terminal: Terminal, place: u16, ram: &[u16]) -> usize {
     let core = terminal.core;
     let queue = terminal.queue;
     let ring = queue.ring;
@@ -128,16 +119,9 @@ fn put_terminal(out: &mut [u8], terminal: Terminal) -> usize {
         core: core,
         ring: ring,
     };
-    recordings::put_state(out, start, held)
-}
-
-// Whether a terminal is as wanted, and its queue's places are those of the row.
-fn is_left(terminal: Terminal, row: &[u8], wanted: &[u8]) -> bool {
-    let mut bytes = io::buffer();
-    let size = put_terminal(&mut bytes, terminal);
-    let queue = terminal.queue;
-    all_are(&queue.places, notation::word_in(row, 10))
-        & check::same(notation::part(&bytes, 0, size), wanted)
+    let state = recordings::put_state(out, start, held);
+    let places = notation::put_others(out, state, &queue.places, place);
+    notation::put_others(out, places, ram, GIVEN)
 }
 
 // ---- the cases
@@ -146,29 +130,32 @@ fn is_left(terminal: Terminal, row: &[u8], wanted: &[u8]) -> bool {
 fn call_holds(row: &[u8], wanted: &[u8], ram: &mut [u16]) -> bool {
     let made = perform(given::terminal_of(row), ram, row);
     let left = made.terminal;
-    (made.refusal == notation::byte_in(row, 9)) & is_left(left, row, wanted)
+    let mut bytes = io::buffer();
+    let size = put_left(&mut bytes, left, notation::word_in(row, 10), ram);
+    (made.refusal == notation::byte_in(row, 9))
+        & check::same(notation::part(&bytes, 0, size), wanted)
 }
 
 // Whether a row comes out as it should, over as much of a RAM as it says.
 fn row_holds(row: &[u8], wanted: &[u8]) -> bool {
-    let mut cells: [u16; 16385] = [0x1234; 16385];
+    let mut cells: [u16; 16385] = [GIVEN; 16385];
     let ram: &mut [u16] = &mut cells;
     let size = notation::word_in(row, 3) as usize;
     if ram.len() < size {
         return false;
     }
-    let right = call_holds(row, wanted, &mut ram[0..size]);
-    right & ((notation::byte_in(row, 9) == 0) | all_are(ram, 0x1234))
+    call_holds(row, wanted, &mut ram[0..size])
 }
 
-// Whether a case comes out as it should.
-pub(crate) fn holds(text: &[u8]) -> bool {
+// Whether a case comes out as it should, behind what its group begins with.
+pub(crate) fn holds(before: &[u8], text: &[u8]) -> bool {
     let end = notation::place_of(text, 0, b'=');
     let mut bytes = io::buffer();
-    let size = notation::read_hex(notation::part(text, 0, end), &mut bytes, 0);
-    let line = notation::part(text, end, notation::place_of(text, end, b'\n'));
+    let start = notation::read_hex(before, &mut bytes, 0);
+    let size = notation::read_hex(notation::part(text, 0, end), &mut bytes, start);
+    let left = notation::part(text, end, notation::place_of(text, end, b'#'));
     let mut others = io::buffer();
-    let count = notation::read_hex(line, &mut others, 0);
+    let count = notation::read_hex(left, &mut others, 0);
     row_holds(
         notation::part(&bytes, 0, size),
         notation::part(&others, 0, count),

@@ -11,8 +11,8 @@ fn is_right(group: &[u8], before: &[u8], text: &[u8]) -> bool {
     match notation::byte_in(group, 0) {
         b'r' => recordings::holds(before, text),
         b'R' => !recordings::holds(before, text),
-        b'c' => calls::holds(text),
-        b'C' => !calls::holds(text),
+        b'c' => calls::holds(before, text),
+        b'C' => !calls::holds(before, text),
         _ => false,
     }
 }

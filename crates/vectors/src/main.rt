@@ -15,7 +15,7 @@ use libc::STDIN_FILENO;
 
 // A text of more bytes is cut, and the counts tell.
 fn main() {
-    let mut bytes: [u8; 262144] = [0; 262144];
+    let mut bytes: [u8; 524288] = [0; 524288];
     let text: &mut [u8] = &mut bytes;
     let size = io::read_full(STDIN_FILENO, text);
     let all = groups::run(notation::part(text, 0, size));

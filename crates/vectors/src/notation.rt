@@ -5,7 +5,8 @@
 //
 // The kind in capitals is of cases that must differ: each is one that holds, but for one thing
 // wrong in what it should be. It comes out right if the comparison says that it differs. Before the
-// first case come remarks and, behind a caret, what every recording of the group begins with.
+// first case come remarks and, behind a caret, what every recording or call of the group begins
+// with.
 //
 // A case begins with a star. One that is a recording:
 //
@@ -73,6 +74,25 @@ fn put_word(out: &mut [u8], at: usize, word: u16) -> usize {
 pub(crate) fn put_pair(out: &mut [u8], at: usize, first: u16, second: u16) -> usize {
     let next = put_word(out, at, first);
     put_word(out, next, second)
+}
+
+// Puts a place and its word, if that is not the given one.
+fn put_other(out: &mut [u8], at: usize, place: usize, word: u16, given: u16) -> usize {
+    if word == given {
+        return at;
+    }
+    put_pair(out, at, (place % 65536) as u16, word)
+}
+
+// Every word that is not the given one.
+pub(crate) fn put_others(out: &mut [u8], at: usize, words: &[u16], given: u16) -> usize {
+    let mut next = at;
+    let mut place: usize = 0;
+    while place < words.len() {
+        next = put_other(out, next, place, words[place], given);
+        place += 1;
+    }
+    next
 }
 
 // ---- hex

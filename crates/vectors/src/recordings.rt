@@ -56,22 +56,6 @@ pub(crate) fn put_state(out: &mut [u8], at: usize, held: Held) -> usize {
     put_message(out, waiting, message)
 }
 
-fn put_cell(out: &mut [u8], at: usize, address: u16, word: u16) -> usize {
-    if word == 0 {
-        return at;
-    }
-    notation::put_pair(out, at, address, word)
-}
-
-// Every nonzero cell.
-fn put_cells(out: &mut [u8], at: usize, ram: &[u16; 16384]) -> usize {
-    let mut next = at;
-    for address in 0..16384 {
-        next = put_cell(out, next, address as u16, ram[address]);
-    }
-    next
-}
-
 // ---- a case
 
 // Runs a recording on a new card. Puts its lines and, behind them, what it leaves.
@@ -89,7 +73,7 @@ fn run_recording(recording: &[u8], out: &mut [u8]) -> usize {
     let tray = passed.tray;
     let held = tray.held;
     let next = put_state(out, passed.put, held);
-    put_cells(out, next, &ram)
+    notation::put_others(out, next, &ram, 0)
 }
 
 // Whether a recording prints the lines of a text, and leaves what it says behind them.

@@ -26,9 +26,9 @@ use Rattle.tray.specs.Run.{
   wholeFrom,
   printed,
 }
-use Rattle.tray.specs.Told.{Tells}
-use Rattle.tray.specs.OneBlock.{events, cardAfter, BrokenRecording, SameRecordings}
-use Rattle.tray.proofs.OneBlock.Theorem.{whole-accepted, one-block-recordings}
+use Rattle.tray_laws.specs.Told.{Tells}
+use Rattle.tray_laws.specs.OneBlock.{events, cardAfter, BrokenRecording, SameRecordings}
+use Rattle.tray_laws.proofs.OneBlock.Theorem.{whole-accepted, one-block-recordings}
 use Rattle.runs.proofs.Telling.{runs}
 use Rattle.runs.proofs.OneBlock.Unsound.{met, command, sound, unsound, after, all-holds}
 

@@ -5,7 +5,7 @@ use mathlib.Core.Path.{_≡_, refl}
 use mathlib.Core.List.{List, [], _∷_}
 use lib.ListN.{replicate}
 use Rattle.bus.specs.Word.{wordOf}
-use Rattle.card.specs.Memory.{theBlock}
+use Rattle.card.specs.Memory.{cardBlocks, theBlock}
 use Rattle.card.specs.Sent.{sentPart}
 use Rattle.terminal.specs.declared.state.Reply.the-variants.{Silent, Words, Last}
 use Rattle.terminal.specs.State.{Card}
@@ -160,8 +160,8 @@ the-cut-run-answers-by-last = refl
 
 -- the words of block 10, which both runs send
 both-runs-send-the-same-words :
-    sentPart (run by-last (run (word command ∷ sound) met) .ram) (theBlock 10) 2
-    ∷ sentPart (run by-last (run (word command ∷ cut) met) .ram) (theBlock 10) 2
+    sentPart cardBlocks (run by-last (run (word command ∷ sound) met) .ram) (theBlock 10) 2
+    ∷ sentPart cardBlocks (run by-last (run (word command ∷ cut) met) .ram) (theBlock 10) 2
     ∷ []
     ≡ replicate 2 (0xAAAA ∷ 0xBBBB ∷ [])
 unfolding runs met

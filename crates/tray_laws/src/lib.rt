@@ -1,0 +1,2 @@
+// What holds of every recording and of every run of one. There is no code here: see specs/Lib.antt
+// and proofs/Lib.antt.
