@@ -1,8 +1,8 @@
-// A call of one of the library's actions: its refusal, and what it leaves. The words of a row:
-// action, two arguments, words of RAM, refusal, 0 for none; then the terminal (`given`). Behind an
-// equals sign comes what is left, up to the next remark: station, table block, flags, queue start,
-// then as a recording leaves it; and every place of the queue and every word of the RAM that is not
-// as it was given. Actions:
+// A call of one of the library's actions, and what comes of it. The words of a row: action, two
+// arguments, words of RAM, all 1234; then the terminal (`given`). Behind an equals sign comes what
+// is left, up to the next remark: a byte, the refusal, 0 for none; station, table block, flags,
+// queue start, then as a recording leaves it; and every place of the queue and every word of the
+// RAM that is not as it was given. Actions:
 //
 //     0  setup, of the terminal's station, table block and flags
 //     1  a word 2C61: its marks    2  silence: line    3  host write: address, count of words
@@ -19,19 +19,16 @@ use card::place::CARD_BLOCKS;
 use card::sent;
 use check;
 use io;
-use terminal::state::Held;
+use queue::Ring;
+use terminal::state::Core;
 
-// ---- the actions
+// What every word of the RAM is before a call.
+const GIVEN: u16 = 0x1234;
 
-// The number of an action that left something wrong.
+// The refusal of an action that left something wrong.
 const WRONG: u8 = 255;
 
-fn number_if(right: bool, number: u8) -> u8 {
-    if right {
-        return number;
-    }
-    WRONG
-}
+// ---- the actions
 
 fn done(answered: Answered) -> Done {
     let left = answered.terminal;
@@ -53,6 +50,13 @@ fn write(given: Terminal, ram: &mut [u16], row: &[u8]) -> Done {
     let words: [u16; 65] = [0x5555; 65];
     let end = (notation::word_in(row, 2) % 66) as usize;
     given.host_write(ram, notation::word_in(row, 1), &words[0..end])
+}
+
+fn number_if(right: bool, number: u8) -> u8 {
+    if right {
+        return number;
+    }
+    WRONG
 }
 
 // A part that is refused is empty; one that is shown has the words that were asked for.
@@ -106,58 +110,54 @@ fn perform(given: Terminal, ram: &mut [u16], row: &[u8]) -> Done {
 
 // ---- what is left
 
-// What every word of the RAM is before a call.
-const GIVEN: u16 = 0x1234;
+// All but the queue's places.
+fn put_terminal(out: &mut [u8], refusal: u8, core: Core, ring: Ring) -> usize {
+    let station = notation::put_byte(out, 0, refusal);
+    let flags = notation::put_pair(out, station, core.station, core.table.0);
+    let state = notation::put_pair(out, flags, core.flags, ring.start);
+    recordings::put_state(out, state, core, ring)
+}
 
-fn put_left(out: &mut [u8], terminal: Terminal, place: u16, ram: &[u16]) -> usize {
-    let core = terminal.core;
-    let queue = terminal.queue;
+fn put_done(out: &mut [u8], made: Done, place: u16) -> usize {
+    let left = made.terminal;
+    let core = left.core;
+    let queue = left.queue;
     let ring = queue.ring;
-    let table = notation::put_pair(out, 0, core.station, core.table.0);
-    let start = notation::put_pair(out, table, core.flags, ring.start);
-    let held = Held {
-        core: core,
-        ring: ring,
-    };
-    let state = recordings::put_state(out, start, held);
-    let places = notation::put_others(out, state, &queue.places, place);
-    notation::put_others(out, places, ram, GIVEN)
+    let places = put_terminal(out, made.refusal, core, ring);
+    notation::put_others(out, places, &queue.places, place)
+}
+
+fn call(row: &[u8], ram: &mut [u16], out: &mut [u8]) -> usize {
+    let made = perform(given::terminal_of(row), ram, row);
+    let cells = put_done(out, made, notation::word_in(row, 9));
+    notation::put_others(out, cells, ram, GIVEN)
 }
 
 // ---- the cases
 
-// Whether an action gives the row's refusal, and leaves what it should.
-fn call_holds(row: &[u8], wanted: &[u8], ram: &mut [u16]) -> bool {
-    let made = perform(given::terminal_of(row), ram, row);
-    let left = made.terminal;
-    let mut bytes = io::buffer();
-    let size = put_left(&mut bytes, left, notation::word_in(row, 10), ram);
-    (made.refusal == notation::byte_in(row, 9))
-        & check::same(notation::part(&bytes, 0, size), wanted)
-}
-
-// Whether a row comes out as it should, over as much of a RAM as it says.
-fn row_holds(row: &[u8], wanted: &[u8]) -> bool {
+// Whether a call leaves what it should, over as much of a RAM as the row says.
+fn leaves(row: &[u8], wanted: &[u8]) -> bool {
     let mut cells: [u16; 16385] = [GIVEN; 16385];
     let ram: &mut [u16] = &mut cells;
     let size = notation::word_in(row, 3) as usize;
     if ram.len() < size {
         return false;
     }
-    call_holds(row, wanted, &mut ram[0..size])
+    let mut bytes = io::buffer();
+    let end = call(row, &mut ram[0..size], &mut bytes);
+    check::same(notation::part(&bytes, 0, end), wanted)
 }
 
 // Whether a case comes out as it should, behind what its group begins with.
 pub(crate) fn holds(before: &[u8], text: &[u8]) -> bool {
-    let end = notation::place_of(text, 0, b'=');
     let mut bytes = io::buffer();
+    let sign = notation::place_of(text, 0, b'=');
+    let end = notation::place_of(text, sign, b'#');
     let start = notation::read_hex(before, &mut bytes, 0);
-    let size = notation::read_hex(notation::part(text, 0, end), &mut bytes, start);
-    let left = notation::part(text, end, notation::place_of(text, end, b'#'));
-    let mut others = io::buffer();
-    let count = notation::read_hex(left, &mut others, 0);
-    row_holds(
-        notation::part(&bytes, 0, size),
-        notation::part(&others, 0, count),
+    let row = notation::read_hex(notation::part(text, 0, sign), &mut bytes, start);
+    let left = notation::read_hex(notation::part(text, sign, end), &mut bytes, row);
+    leaves(
+        notation::part(&bytes, 0, row),
+        notation::part(&bytes, row, left),
     )
 }

@@ -1,4 +1,4 @@
-// The terminal that a row of a call describes, fit or not, from its sixth word on: station, table
+// The terminal that a row of a call describes, fit or not, from its fifth word on: station, table
 // block, flags; queue start, count, and what every place holds; the open command, its block, table
 // block and words taken, the second command (0 for none), the stage (0 for nothing open). Words
 // that the row has not are 0. Status and last command hold what no message makes, and all marks are
@@ -33,22 +33,22 @@ fn stage_of(number: u16) -> Stage {
 
 fn open_message(row: &[u8]) -> OpenMessage {
     OpenMessage {
-        command: notation::word_in(row, 11),
+        command: notation::word_in(row, 10),
         line: false,
-        block: Block(notation::word_in(row, 12)),
-        table: Block(notation::word_in(row, 13)),
+        block: Block(notation::word_in(row, 11)),
+        table: Block(notation::word_in(row, 12)),
         moved: false,
         busy: false,
         queued: false,
         opened: 0,
-        taken: notation::word_in(row, 14),
-        second: second_of(notation::word_in(row, 15)),
-        stage: stage_of(notation::word_in(row, 16)),
+        taken: notation::word_in(row, 13),
+        second: second_of(notation::word_in(row, 14)),
+        stage: stage_of(notation::word_in(row, 15)),
     }
 }
 
 fn message_of(row: &[u8]) -> Message {
-    if notation::word_in(row, 16) == 0 {
+    if notation::word_in(row, 15) == 0 {
         return Message::Idle;
     }
     Message::Open(open_message(row))
@@ -56,9 +56,9 @@ fn message_of(row: &[u8]) -> Message {
 
 fn core_of(row: &[u8]) -> Core {
     Core {
-        station: notation::word_in(row, 5),
-        table: Block(notation::word_in(row, 6)),
-        flags: notation::word_in(row, 7),
+        station: notation::word_in(row, 4),
+        table: Block(notation::word_in(row, 5)),
+        flags: notation::word_in(row, 6),
         status: 0xFFFF,
         last: 0xFFFF,
         shut: Shut { a: true, b: true },
@@ -68,12 +68,12 @@ fn core_of(row: &[u8]) -> Core {
 }
 
 fn queue_of(row: &[u8]) -> Queue {
-    let place = notation::word_in(row, 10);
+    let place = notation::word_in(row, 9);
     Queue {
         places: [place; 256],
         ring: Ring {
-            start: notation::word_in(row, 8),
-            count: notation::word_in(row, 9),
+            start: notation::word_in(row, 7),
+            count: notation::word_in(row, 8),
             overflow: true,
         },
     }

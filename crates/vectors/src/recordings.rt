@@ -7,8 +7,8 @@ use message::state::Message;
 use message::state::Stage;
 use queue::Ring;
 use terminal::state::Core;
-use terminal::state::Held;
 use tray;
+use tray::Passed;
 use tray::Tray;
 
 // ---- what a run leaves, in the bytes of the notation
@@ -46,14 +46,20 @@ fn put_message(out: &mut [u8], at: usize, message: Message) -> usize {
     }
 }
 
-pub(crate) fn put_state(out: &mut [u8], at: usize, held: Held) -> usize {
-    let core = held.core;
-    let ring = held.ring;
+pub(crate) fn put_state(out: &mut [u8], at: usize, core: Core, ring: Ring) -> usize {
     let message = core.message;
     let words = notation::put_pair(out, at, core.status, core.last);
     let marks = notation::put_byte(out, words, marks_of(core, ring));
     let waiting = notation::put_byte(out, marks, (ring.count % 256) as u8);
     put_message(out, waiting, message)
+}
+
+fn put_run(out: &mut [u8], passed: Passed) -> usize {
+    let tray = passed.tray;
+    let held = tray.held;
+    let core = held.core;
+    let ring = held.ring;
+    put_state(out, passed.put, core, ring)
 }
 
 // ---- a case
@@ -70,9 +76,7 @@ fn run_recording(recording: &[u8], out: &mut [u8]) -> usize {
         out,
         true,
     );
-    let tray = passed.tray;
-    let held = tray.held;
-    let next = put_state(out, passed.put, held);
+    let next = put_run(out, passed);
     notation::put_others(out, next, &ram, 0)
 }
 
