@@ -1,6 +1,6 @@
--- The laws of `specs/Actions.antt`, as the code judges and answers. Assumes nothing.
+-- The laws of `specs/Actions.antt`, as the code refuses and answers. Assumes nothing.
 use mathlib.Core.Path.{_≡_, refl, sym, ap, _∙_}
-use mathlib.Core.Bool.{Bool, true, false, cond, not, _&&_}
+use mathlib.Core.Bool.{Bool, true, false, cond, not}
 use mathlib.Core.List.{List, []}
 use Prim.Native.Nat.{ℕ, suc}
 use native.Mathlib.Omega.{arith}
@@ -17,7 +17,7 @@ use Rattle.card.specs.Host as host
 use Rattle.card.specs.Host.{isWrite}
 use Rattle.queue.specs.declared.QueueRead.{QueueRead}
 use Rattle.queue.specs.declared.Queue.{Queue}
-use Rattle.queue.specs.Queue.{readOf, fitQueue, emptyQueue}
+use Rattle.queue.specs.Queue.{readOf, emptyQueue}
 use Rattle.message.specs.Message.{movedMessage}
 use Rattle.terminal.specs.declared.state.Core.{Core}
 use Rattle.terminal.specs.declared.state.Answer.{Answer}
@@ -48,7 +48,6 @@ use Rattle.terminal.specs.Machine.{
   moveTableStep,
   setFlagsStep,
 }
-use Rattle.terminal.specs.Fitness.{fitCore}
 use Rattle.terminal.proofs.SilentLaws.{words-are-silent}
 use Rattle.actions.specs.declared.Terminal.{Terminal}
 use Rattle.actions.specs.Actions.{
@@ -68,13 +67,6 @@ use Rattle.actions.specs.Actions.{
   setupAction,
 }
 use Rattle.actions.specs.AsCoded.Refusal.{setupRefusal, aloneRefusal, memoryRefusal}
-
--- ---- what is judged
-
-pub fit-terminal-is : (given : Terminal) (fit fit′ : Bool)
-    → fit ≡ fitCore cardBlocks (given .core) → fit′ ≡ fitQueue cardBlocks (given .queue)
-    → (fit && fit′) ≡ fitTerminal given
-fit-terminal-is given fit fit′ is is′ = rw (is, is′)
 
 -- ---- the number that refuses
 

@@ -22,8 +22,6 @@ use Rattle.message.proofs.state.has_second.Kinds as has-second-kinds
 use Rattle.message.proofs.state.has_second.Reads as has-second-reads
 use Rattle.message.proofs.state.second_of.Kinds as second-of-kinds
 use Rattle.message.proofs.state.second_of.Reads as second-of-reads
-use Rattle.message.proofs.fitness.is_fit_message.Kinds as is-fit-message-kinds
-use Rattle.message.proofs.fitness.is_fit_message.Reads as is-fit-message-reads
 
 pub asked-of : Determined 0 asked-of-kinds.ps asked-of-kinds.r asked-of-reads.Post
 asked-of κs arguments result result′ exit exit′ = same
@@ -58,7 +56,3 @@ has-second κs arguments result result′ exit exit′ = same
 
 pub second-of : Determined 0 second-of-kinds.ps second-of-kinds.r second-of-reads.Post
 second-of κs arguments result result′ exit exit′ = same
-
-pub is-fit-message :
-    Determined 0 is-fit-message-kinds.ps is-fit-message-kinds.r is-fit-message-reads.Post
-is-fit-message κs arguments result result′ exit exit′ = same

@@ -5,8 +5,6 @@ use Rattle.rules.proofs.Determined.{Determined, DeterminedAs, same}
 use Rattle.terminal.specs.State.{Card, cardOf}
 use Rattle.terminal.specs.Event.{replied, Shown, shown}
 use Rattle.terminal.specs.AsCoded.Row.{Storing, storing}
-use Rattle.terminal.proofs.state.Core.is_fit.Kinds as is-fit-kinds
-use Rattle.terminal.proofs.state.Core.is_fit.Reads as is-fit-reads
 use Rattle.terminal.proofs.state.Core.at_setup.Kinds as core-setup-kinds
 use Rattle.terminal.proofs.state.Core.at_setup.Reads as core-setup-reads
 use Rattle.terminal.proofs.state.Core.move_table.Kinds as core-table-kinds
@@ -31,9 +29,6 @@ use Rattle.terminal.proofs.state.Core.word.Kinds as core-word-kinds
 use Rattle.terminal.proofs.state.Core.word.Reads as core-word-reads
 use Rattle.terminal.proofs.state.Core.silence.Kinds as core-silence-kinds
 use Rattle.terminal.proofs.state.Core.silence.Reads as core-silence-reads
-
-pub is-fit : Determined 0 is-fit-kinds.ps is-fit-kinds.r is-fit-reads.Post
-is-fit κs arguments result result′ exit exit′ = same
 
 pub core-setup : Determined 0 core-setup-kinds.ps core-setup-kinds.r core-setup-reads.Post
 core-setup κs arguments result result′ exit exit′ = same

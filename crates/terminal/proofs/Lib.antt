@@ -1,5 +1,5 @@
 -- The mathematics of the terminal's code. What holds of every event is in `terminal_laws`.
---     CoreLaws      how the code sets the core and judges whether it is fit
+--     CoreLaws      how the code sets the core
 --     OpeningLaws   how the code puts an opening together
 --     ClosingLaws   how the code puts a closing together
 --     StepLaws      how the code does what was decided

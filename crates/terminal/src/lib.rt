@@ -1,9 +1,7 @@
 // The remote terminal of document 01. Read `state` first: what it holds. `opening` and `closing` do
 // what the rules of an open message decide, `machine` puts them together, and `row` stores data
-// words many at a time; `fitness` is refusal 4. What a caller uses, refusals included, is the crate
-// `actions`.
+// words many at a time. What a caller uses, refusals included, is the crate `actions`.
 mod closing;
-mod fitness;
 mod machine;
 mod opening;
 pub mod row;

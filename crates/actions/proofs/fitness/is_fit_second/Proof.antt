@@ -1,8 +1,8 @@
--- `message::fitness::is_fit_second` meets its contract, by the cases of the second command.
+-- `actions::fitness::is_fit_second` meets its contract, by the cases of the second command.
 -- Assumes nothing.
 use borrow.Author.Needs.{needs}
-use Rattle.message.proofs.fitness.is_fit_second.Statement.{statement}
-use Rattle.message.proofs.fitness.is_fit_second.Tie as tie
+use Rattle.actions.proofs.fitness.is_fit_second.Statement.{statement}
+use Rattle.actions.proofs.fitness.is_fit_second.Tie as tie
 
 enum-told : tie.Need-enum-told
 enum-told c = search needs

@@ -1,8 +1,8 @@
--- `message::fitness::is_fit_stage` meets its contract, by the cases of the stage. Assumes
+-- `actions::fitness::is_fit_stage` meets its contract, by the cases of the stage. Assumes
 -- nothing.
 use borrow.Author.Needs.{needs}
-use Rattle.message.proofs.fitness.is_fit_stage.Statement.{statement}
-use Rattle.message.proofs.fitness.is_fit_stage.Tie as tie
+use Rattle.actions.proofs.fitness.is_fit_stage.Statement.{statement}
+use Rattle.actions.proofs.fitness.is_fit_stage.Tie as tie
 
 has-second-requires : tie.Need-has-second-requires
 has-second-requires c κs = search needs

@@ -1,9 +1,9 @@
--- `message::fitness::is_fit_open` meets its contract: its tests are those that the calls answer.
+-- `actions::fitness::is_fit_open` meets its contract: its tests are those that the calls answer.
 -- Assumes nothing.
 use borrow.Author.Needs.{needs}
 use Rattle.message.specs.Fitness.{fitOpen}
-use Rattle.message.proofs.fitness.is_fit_open.Statement.{statement}
-use Rattle.message.proofs.fitness.is_fit_open.Tie as tie
+use Rattle.actions.proofs.fitness.is_fit_open.Statement.{statement}
+use Rattle.actions.proofs.fitness.is_fit_open.Tie as tie
 
 address-requires : tie.Need-address-requires
 address-requires c κs = search needs

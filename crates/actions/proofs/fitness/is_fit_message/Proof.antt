@@ -1,9 +1,9 @@
--- `message::fitness::is_fit_message` meets its contract, by the cases of the message. Assumes
+-- `actions::fitness::is_fit_message` meets its contract, by the cases of the message. Assumes
 -- nothing.
 use borrow.Author.Needs.{needs}
-use Rattle.message.proofs.MessageLaws.{open-is-fit}
-use Rattle.message.proofs.fitness.is_fit_message.Statement.{statement}
-use Rattle.message.proofs.fitness.is_fit_message.Tie as tie
+use Rattle.actions.proofs.FitnessLaws.{open-is-fit}
+use Rattle.actions.proofs.fitness.is_fit_message.Statement.{statement}
+use Rattle.actions.proofs.fitness.is_fit_message.Tie as tie
 
 enum-told : tie.Need-enum-told
 enum-told c = search needs
