@@ -4,6 +4,7 @@
 --     ClosingLaws   how the code puts a closing together
 --     StepLaws      how the code does what was decided
 --     RowLaws       how the code stores a row of data words
+--     RowWords      a data word that is wanted is stored; a row of them is as many words
 --     SilentLaws    a word brings no reply
 --     Determined    each public contract allows one outcome alone
 pub mod CoreLaws
@@ -11,5 +12,6 @@ pub mod OpeningLaws
 pub mod ClosingLaws
 pub mod StepLaws
 pub mod RowLaws
+pub mod RowWords
 pub mod SilentLaws
 pub mod Determined

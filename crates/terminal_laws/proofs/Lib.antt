@@ -7,7 +7,6 @@
 --     FitSilence    a silence keeps the card fit
 --     FitLaws       a fit state stays fit: one event, and a run
 --     StoreLaws     where rule 8 stores a word
---     RowLaws       a data word that is wanted is stored; a row of them is as many words
 --     OneBlock      one broken message costs one block
 --     StepFrame     what an event leaves alone: every cell that it may not write
 --     ClosedCells   what a closing makes of memory: data cells and length are kept
@@ -25,7 +24,6 @@ pub mod FitWord
 pub mod FitSilence
 pub mod FitLaws
 pub mod StoreLaws
-pub mod RowLaws
 pub mod OneBlock
 pub mod StepFrame
 pub mod ClosedCells

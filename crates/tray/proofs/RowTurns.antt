@@ -20,7 +20,7 @@ use Rattle.terminal.specs.Event.{word}
 use Rattle.terminal.specs.Row.{rowStored}
 use Rattle.terminal.specs.AsCoded.Row.{rowOf}
 use Rattle.terminal.specs.Machine.{run}
-use Rattle.terminal_laws.proofs.RowLaws.{row-is-words}
+use Rattle.terminal.proofs.RowWords.{row-is-words}
 use Rattle.recording.specs.declared.seen.Seen.{Seen}
 use Rattle.lines.specs.Written.{lineRoom, mostWords}
 use Rattle.tray.specs.declared.row.Reach.{Reach}
