@@ -28,25 +28,26 @@ the-largest-number = refl
 zeros : ℕ → List ℕ
 zeros count = replicate count 0
 
-room-at-the-start : lineWritten (zeros lineRoom) 0 (queueLine 0x8002)
+-- a line at the start of a buffer that just has room; two digits in the middle of one
+where-there-is-room :
+    lineWritten (zeros lineRoom) 0 (queueLine 0x8002)
+    ∷ written 2 (1 ∷ 2 ∷ 3 ∷ 4 ∷ []) 1 (hexByte 0x0F)
+    ∷ []
     ≡ put 7 (queueLine 0x8002 ++ zeros 161)
-unfolding zeros written stored queueLine hexWord hexDigit
-room-at-the-start = refl
+    ∷ put 3 (1 ∷ 48 ∷ 70 ∷ 4 ∷ [])
+    ∷ []
+unfolding zeros written stored queueLine hexWord hexByte hexDigit
+where-there-is-room = refl
 
-no-room-one-byte-on : lineWritten (zeros lineRoom) 1 (queueLine 0x8002) ≡ put 1 (zeros lineRoom)
-unfolding zeros written
-no-room-one-byte-on = refl
-
-no-room-past-the-end : written 4 (1 ∷ 2 ∷ []) 9 (hexWord 0xABCD) ≡ put 9 (1 ∷ 2 ∷ [])
-unfolding written
-no-room-past-the-end = refl
-
-a-byte-in-the-middle :
-    written 2 (1 ∷ 2 ∷ 3 ∷ 4 ∷ []) 1 (hexByte 0x0F) ≡ put 3 (1 ∷ 48 ∷ 70 ∷ 4 ∷ [])
-unfolding written stored hexByte hexDigit
-a-byte-in-the-middle = refl
-
-thirty-three-words-are-not-written :
-    statusWritten (zeros 200) 0 0x2800 (replicate 33 0x1111) ≡ put 0 (zeros 200)
-unfolding statusWritten
-thirty-three-words-are-not-written = refl
+-- the same line one byte on; a word past the end; a line of 33 words
+where-there-is-none :
+    lineWritten (zeros lineRoom) 1 (queueLine 0x8002)
+    ∷ written 4 (1 ∷ 2 ∷ []) 9 (hexWord 0xABCD)
+    ∷ statusWritten (zeros 200) 0 0x2800 (replicate 33 0x1111)
+    ∷ []
+    ≡ put 1 (zeros lineRoom)
+    ∷ put 9 (1 ∷ 2 ∷ [])
+    ∷ put 0 (zeros 200)
+    ∷ []
+unfolding zeros written statusWritten
+where-there-is-none = refl

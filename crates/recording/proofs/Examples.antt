@@ -20,25 +20,16 @@ setup = 0x01 ∷ 0x00 ∷ 0x03 ∷ 0x05 ∷ 0x01 ∷ 0x00 ∷ []
 abbrev command : List ℕ
 command = 0x02 ∷ 0x00 ∷ 0x07 ∷ 0x06 ∷ 0x28 ∷ 0x62 ∷ 0x00 ∷ 0x00 ∷ 0x00 ∷ 0x28 ∷ []
 
-past-the-end : readAt (setup ++ command) 1000 setupSeen ≡ End
-unfolding readAt tagOf lengthFits fieldAt
-past-the-end = refl
-
 -- ---- no byte is 256 or 300, and no test asks for bytes
 
--- 2: the station, before the table block
-station-31-with-table-block-300 :
+-- 2: the station, before the table block; 3: the table block, before the flags
+a-setup-with-table-block-300 :
     readAt (0x01 ∷ 0x00 ∷ 0x03 ∷ 0x1F ∷ 300 ∷ 0x00 ∷ []) 0 nothingSeen
-    ≡ Refused 2 0
+    ∷ readAt (0x01 ∷ 0x00 ∷ 0x03 ∷ 0x1E ∷ 300 ∷ 0x40 ∷ []) 0 nothingSeen
+    ∷ []
+    ≡ Refused 2 0 ∷ Refused 3 0 ∷ []
 unfolding readAt tagOf lengthFits fieldAt
-station-31-with-table-block-300 = refl
-
--- 3: the table block, before the flags
-table-block-300-with-flags-64 :
-    readAt (0x01 ∷ 0x00 ∷ 0x03 ∷ 0x1E ∷ 300 ∷ 0x40 ∷ []) 0 nothingSeen
-    ≡ Refused 3 0
-unfolding readAt tagOf lengthFits fieldAt
-table-block-300-with-flags-64 = refl
+a-setup-with-table-block-300 = refl
 
 table-block-256-is-refused : readAt (0x06 ∷ 0x00 ∷ 0x01 ∷ 256 ∷ []) 0 setupSeen ≡ Refused 3 0
 unfolding readAt tagOf lengthFits fieldAt
@@ -46,13 +37,12 @@ table-block-256-is-refused = refl
 
 -- ---- piece by piece
 
-a-word-waits-for-its-last-byte : isSettled (readAt (take 9 command) 0 setupSeen) ≡ false
+-- a word waits for its last byte; an unknown tag waits for nothing
+what-waits-for-bytes :
+    isSettled (readAt (take 9 command) 0 setupSeen) ∷ isSettled (readAt (0x08 ∷ []) 0 setupSeen) ∷ []
+    ≡ false ∷ true ∷ []
 unfolding readAt tagOf lengthFits fieldAt
-a-word-waits-for-its-last-byte = refl
-
-another-tag-waits-for-nothing : isSettled (readAt (0x08 ∷ []) 0 setupSeen) ≡ true
-unfolding readAt tagOf lengthFits fieldAt
-another-tag-waits-for-nothing = refl
+what-waits-for-bytes = refl
 
 reading-on :
     readAt (setup ++ command) 6 setupSeen
@@ -60,12 +50,17 @@ reading-on :
 unfolding readAt tagOf lengthFits fieldAt
 reading-on = refl
 
--- ---- a copy of words
+-- ---- past the end
 
-a-word-cut-off-is-not-copied : withWords (1 ∷ 2 ∷ []) (0x11 ∷ 0x11 ∷ 0x22 ∷ []) 0 2 ≡ 1 ∷ 2 ∷ []
-unfolding withWords
-a-word-cut-off-is-not-copied = refl
+past-the-end : readAt (setup ++ command) 1000 setupSeen ≡ End
+unfolding readAt tagOf lengthFits fieldAt
+past-the-end = refl
 
-sixty-five-words-are-not-copied : withWords (1 ∷ 2 ∷ []) (replicate 130 0) 0 65 ≡ 1 ∷ 2 ∷ []
+-- two words of which the second is cut off, and 65 words
+copies-that-are-not-made :
+    withWords (1 ∷ 2 ∷ []) (0x11 ∷ 0x11 ∷ 0x22 ∷ []) 0 2
+    ∷ withWords (1 ∷ 2 ∷ []) (replicate 130 0) 0 65
+    ∷ []
+    ≡ replicate 2 (1 ∷ 2 ∷ [])
 unfolding withWords
-sixty-five-words-are-not-copied = refl
+copies-that-are-not-made = refl

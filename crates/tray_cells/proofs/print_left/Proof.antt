@@ -1,11 +1,15 @@
--- `tray_cells::print_left` is safe: the end of the text lies in the buffer. Assumes nothing.
+-- `tray_cells::print_left` is safe: the end of the text lies in the buffer, whose length is said by a
+-- law. Assumes nothing.
+use mathlib.Core.Path.{sym}
+use Prim.Native.Nat.{ℕ}
+use lib.ListN.{length-replicate}
 use borrow.Author.Needs.{needs}
 use Rattle.tray_cells.proofs.TextLaws.{end-inside}
 use Rattle.tray_cells.proofs.print_left.Statement.{statement}
 use Rattle.tray_cells.proofs.print_left.Tie as tie
 
 slice-aggregate-out : tie.Need-slice-aggregate-out
-slice-aggregate-out c = search needs
+slice-aggregate-out c = sym (length-replicate {A = ℕ} 172032 0)
 
 put-state-requires : tie.Need-put-state-requires
 put-state-requires c κs = search needs
