@@ -1,5 +1,5 @@
 -- A call of the program, and what it leaves to do. Assumes nothing.
-use mathlib.Core.Path.{_≡_, refl, sym, ap, subst, _∙_}
+use mathlib.Core.Path.{_≡_, sym, ap, subst, _∙_}
 use mathlib.Core.Logic.{_≢_}
 use mathlib.Core.Bool.{Bool, true, false, true≢false}
 use mathlib.Core.List.{List}
@@ -11,7 +11,6 @@ use borrow.Author.Tests.{le-leb}
 use Rattle.rules.proofs.Clash.{clash}
 use Rattle.lines.specs.Written.{Put, put}
 use Rattle.tray.specs.declared.window.Passed.{Passed as HeldPassed}
-use Rattle.tray.specs.declared.run.Tray.{Tray as HeldTray}
 use Rattle.tray.specs.declared.window.Stop.{Stop}
 use Rattle.tray.specs.declared.window.Stop.the-variants.{Going, Hungry, Full, Over}
 use Rattle.tray.specs.Run.{Tray}
@@ -19,12 +18,13 @@ use Rattle.tray.specs.AsCoded.Window.{Passed, isGoing, windowRun, keptRest}
 use Rattle.tray.specs.AsCoded.Held.{trayOf, passedOf}
 use Rattle.tray_laws.proofs.EndLaws.{call-inside, call-stops, full-after-a-field}
 use Rattle.stream.specs.declared.Pump.{Pump}
+use Rattle.stream.specs.Progress.{bufferBytes}
 use Rattle.stream.specs.AsCoded.Turns.{
   Buffers,
   RoomToRead,
   ReadOn,
-  Stepped,
   AfterCall,
+  ToSettle,
   breaks-off,
   stays,
   ends-run,
@@ -65,75 +65,98 @@ rest-kept window at have window′ left inside is =
 
 -- ---- a call
 
-pub call-steps : (old : HeldTray) (places ram window : List ℕ) (have : ℕ) (ended : Bool) (out : List ℕ)
-    (ran : HeldPassed) (places′ ram′ out′ window′ : List ℕ) (left : ℕ) (failed : Bool)
-    → Buffers have window out
-    → passedOf ran places′ ram′ out′
-    ≡ windowRun (trayOf old places ram) (take (have - 0) (drop 0 window)) ended out
-    → (failed ≡ true → ran .put ≢ 0)
-    → put left window′ ≡ keptRest window (ran .at) have
-    → Stepped (trayOf old places ram) window have ended (trayOf (ran .tray) places′ ram′) window′
-    (record { tray = ran .tray; have = left; ended = ended; over = failed; whole = false })
-    (ran .stop)
-call-steps old places ram window have ended out ran places′ ram′ out′ window′ left failed buffers
-    is-ran lines is-kept =
-    record {
-      out = out;
-      is-new = ap (λ (any : Passed). any .tray) is-call;
-      is-stop = sym is-stop;
-      is-left = rest .bytes ∙ ap (λ (at : ℕ). drop at (take have window)) is-at;
-      breaks = λ is none. lines is (ap (λ (any : Passed). any .put) is-call ∙ none);
-      stops =
-          λ same.
-          let goes : call .stop ≡ Going = sym is-stop ∙ same in
-          let stopped : isGoing (call .stop) ≡ false =
-          call-stops (take have window) ended (trayOf old places ram) out (omega (arith, long)) in
-          true≢false (rw goes at stopped);
-      took =
-          λ same.
-          full-after-a-field (take have window) ended (trayOf old places ram) out
-          (omega (arith, buffers .out-size)) (sym is-stop ∙ same);
-      room =
-          λ same.
-          omega (
-            arith,
-            long,
-            is-at,
-            rest .is-left,
-            hungry-few (take have window) ended (trayOf old places ram) out (sym is-stop ∙ same),
-          );
-      inside = rest .inside;
-      same-end = refl;
-      not-whole = refl;
-    }
-  where
-    call : Passed
-    call = windowRun (trayOf old places ram) (take have window) ended out
+-- a call, over so many bytes in the window, and what of them is left. It took a field or more where
+-- it had no room for another line, and leaves room in the window where it needs bytes
+pub record Stepped (old : Tray) (window : List ℕ) (have : ℕ) (ended : Bool)
+    (new : Tray) (window′ : List ℕ) (pump : Pump) (stop : Stop) : Type 0 where
+  pub out : List ℕ
+  pub is-new : new ≡ windowRun old (take have window) ended out .tray
+  pub is-stop : windowRun old (take have window) ended out .stop ≡ stop
+  pub is-left : take (pump .have) window′
+      ≡ drop (windowRun old (take have window) ended out .at) (take have window)
+  pub breaks : pump .over ≡ true → windowRun old (take have window) ended out .put ≢ 0
+  pub stops : stop ≢ Going
+  pub took : stop ≡ Full → 0 < windowRun old (take have window) ended out .at
+  pub room : stop ≡ Hungry → pump .have < bufferBytes
+  pub inside : pump .have ≤ length window′
+  pub same-end : pump .ended ≡ ended
+  pub not-whole : pump .whole ≡ false
 
-    is-call : passedOf ran places′ ram′ out′ ≡ call
-    is-call =
-        let size : have - 0 ≡ have = omega arith in
-        is-ran
-        ∙ ap (λ (any : ℕ). windowRun (trayOf old places ram) (take any window) ended out) size
+module _ (old : Tray) (window : List ℕ) (have : ℕ) (ended : Bool) (out : List ℕ) (ran : HeldPassed)
+    (places ram out′ : List ℕ) (buffers : Buffers have window out)
+    (is-ran : passedOf ran places ram out′
+    ≡ windowRun old (take (have - 0) (drop 0 window)) ended out) where
+  call : Passed
+  call = windowRun old (take have window) ended out
 
-    is-stop : ran .stop ≡ call .stop
-    is-stop = ap (λ (any : Passed). any .stop) is-call
+  is-call : passedOf ran places ram out′ ≡ call
+  unfolding call
+  is-call =
+      let size : have - 0 ≡ have = omega arith in
+      is-ran ∙ ap (λ (any : ℕ). windowRun old (take any window) ended out) size
 
-    is-at : ran .at ≡ call .at
-    is-at = ap (λ (any : Passed). any .at) is-call
+  is-stop : ran .stop ≡ call .stop
+  is-stop = ap (λ (any : Passed). any .stop) is-call
 
-    long : length (take have window) ≡ have
-    long = length-take-le have window (buffers .inside)
+  is-at : ran .at ≡ call .at
+  is-at = ap (λ (any : Passed). any .at) is-call
 
-    rest : Rest window (ran .at) have window′ left
-    rest = rest-kept window (ran .at) have window′ left (buffers .inside) is-kept
+  long : length (take have window) ≡ have
+  long = length-take-le have window (buffers .inside)
 
-pub lines-inside : (old : Tray) (window : List ℕ) (last : Bool) (out : List ℕ) (ran : HeldPassed)
-    (places ram out′ : List ℕ)
-    → passedOf ran places ram out′ ≡ windowRun old window last out → ran .put ≤ length out′
-lines-inside old window last out ran places ram out′ is =
-    subst (λ (any : Passed). any .put ≤ length (any .out)) (sym is)
-    (call-inside window last old out)
+  -- where the call needs bytes it leaves few
+  few-left : ran .stop ≡ Hungry → have - ran .at < bufferBytes
+  unfolding call
+  few-left same =
+      omega (
+        arith,
+        long,
+        is-at,
+        hungry-few (take have window) ended old out (sym is-stop ∙ same),
+      )
+
+  -- what the call leaves can be done
+  pub can-settle : ToSettle have window out′ (ran .at) (ran .put) (ran .stop)
+  unfolding call
+  can-settle =
+      record {
+        inside = buffers .inside;
+        lines-inside =
+            subst (λ (any : Passed). any .put ≤ length (any .out)) (sym is-call)
+            (call-inside (take have window) ended old out);
+        room = λ same. omega (arith, few-left same, buffers .window-size);
+      }
+
+  -- with its lines written and the rest of the window kept
+  pub call-steps : (window′ : List ℕ) (pump : Pump)
+      → put (pump .have) window′ ≡ keptRest window (ran .at) have
+      → (pump .over ≡ true → ran .put ≢ 0) → pump .ended ≡ ended → pump .whole ≡ false
+      → Stepped old window have ended (trayOf (ran .tray) places ram) window′ pump (ran .stop)
+  unfolding call
+  call-steps window′ pump is-kept lines same-end not-whole =
+      let rest : Rest window (ran .at) have window′ (pump .have) =
+      rest-kept window (ran .at) have window′ (pump .have) (buffers .inside) is-kept in
+      record {
+        out = out;
+        is-new = ap (λ (any : Passed). any .tray) is-call;
+        is-stop = sym is-stop;
+        is-left = rest .bytes ∙ ap (λ (at : ℕ). drop at (take have window)) is-at;
+        breaks = λ is none. lines is (ap (λ (any : Passed). any .put) is-call ∙ none);
+        stops =
+            λ same.
+            let goes : call .stop ≡ Going = sym is-stop ∙ same in
+            let stopped : isGoing (call .stop) ≡ false =
+            call-stops (take have window) ended old out (omega (arith, long)) in
+            true≢false (rw goes at stopped);
+        took =
+            λ same.
+            full-after-a-field (take have window) ended old out
+            (omega (arith, buffers .out-size)) (sym is-stop ∙ same);
+        room = λ same. omega (arith, rest .is-left, few-left same);
+        inside = rest .inside;
+        same-end = same-end;
+        not-whole = not-whole;
+      }
 
 -- where a call needs bytes there is room to read them
 pub room-there : (have : ℕ) (window : List ℕ) (stop : Stop) → RoomToRead have window stop
@@ -145,6 +168,19 @@ pub no-failure : (lines : ℕ) → false ≡ true → lines ≢ 0
 no-failure lines is = absurd (clash (cc))
 
 -- ---- what it leaves to do
+
+-- where the lines of a call are written and the rest of the window is kept
+module _ (old : Pump) (window out : List ℕ) (at lines : ℕ) (stop : Stop) (kept : List ℕ) (left : ℕ)
+    (there : ToSettle (old .have) window out at lines stop)
+    (is-kept : put left kept ≡ keptRest window at (old .have)) where
+  -- there is room to read where it needs bytes
+  pub settles-room : length kept ≡ length window → RoomToRead left kept stop
+  settles-room same =
+      let rest = rest-kept window at (old .have) kept left (there .inside) is-kept in
+      record {
+        inside = rest .inside;
+        room = λ hungry. omega (arith, rest .is-left, there .room hungry, same);
+      }
 
 module _ (pump : Pump) (window : List ℕ) (stop : Stop) where
   pub call-broke : pump .over ≡ true → AfterCall pump window stop pump window
@@ -160,7 +196,6 @@ module _ (pump : Pump) (window : List ℕ) (stop : Stop) where
 
   pub call-over : (next : Pump) → pump .over ≡ false → stop ≡ Over
       → next ≡ record {
-        tray = pump .tray;
         have = pump .have;
         ended = pump .ended;
         over = true;

@@ -13,11 +13,9 @@ use borrow.Author.Tests.{eqb-true, eqb-false}
 use Rattle.tray.specs.declared.window.Stop.{Stop}
 use Rattle.tray.specs.declared.window.Stop.the-variants.{Going, Hungry, Full, Over}
 use Rattle.tray.specs.Run.{Tray}
-use Rattle.tray.specs.AsCoded.Held.{trayOf}
 use Rattle.stream.specs.declared.Heard.{Heard}
 use Rattle.stream.specs.declared.Pump.{Pump}
 use Rattle.stream.specs.Progress.{
-  bufferBytes,
   Far,
   afterCall,
   withPiece,
@@ -27,23 +25,34 @@ use Rattle.stream.specs.Progress.{
   feeds,
   finds-end,
 }
-use Rattle.stream.specs.Came.{LastCall, finished, broken-off, unread}
+use Rattle.stream.specs.Came.{LastCall, Came, finished, broken-off, unread}
 use Rattle.stream.specs.AsCoded.Turns.{
-  Reached,
-  Pumped,
-  going,
-  over,
-  RoomToRead,
   isFailure,
   ReadOn,
-  Stepped,
   AfterCall,
-  Turned,
   breaks-off,
   stays,
   ends-run,
   reads-on,
 }
+use Rattle.stream.proofs.CallLaws.{Stepped}
+
+-- in so many turns some input was read and some text printed; these bytes are left in the window
+pub record Reached (start : Tray) (turns : ℕ) (ended : Bool) (new : Tray) (window : List ℕ)
+    : Type 0 where
+  pub input : List ℕ
+  pub text : List ℕ
+  pub progressed : Progressed start turns
+      (record { ended = ended; input = input; text = text; tray = new; window = window })
+
+-- `Pumped start turns new window ended over whole`: the program goes on after so many turns, with
+-- these bytes in its window, or it is over, and its run whole or not
+pub data Pumped (start : Tray) (turns : ℕ) : Tray → List ℕ → Bool → Bool → Bool → Type 0 where
+  going : {ended : Bool} {new : Tray} {window : List ℕ}
+      → Reached start turns ended new window
+      → Pumped start turns new window ended false false
+  over : {ended whole : Bool} {new : Tray} {window : List ℕ} → Came start new whole
+      → Pumped start turns new window ended true whole
 
 -- a call that neither goes on nor is over nor needs bytes had no room for another line
 is-full : (stop : Stop) → stop ≢ Going → stop ≢ Over → stop ≢ Hungry → stop ≡ Full
@@ -58,9 +67,9 @@ no-piece [] none = refl
 no-piece (byte ∷ rest) none = absurd (omega arith)
 
 -- what a call leaves to do is done
-module _ {start old : Tray} {turns : ℕ} {window : List ℕ} {have : ℕ} {ended : Bool}
-    (places ram window′ : List ℕ) (pump : Pump) (stop : Stop)
-    (step : Stepped old window have ended (trayOf (pump .tray) places ram) window′ pump stop)
+module _ {start old new : Tray} {turns : ℕ} {window : List ℕ} {have : ℕ} {ended : Bool}
+    (window′ : List ℕ) (pump : Pump) (stop : Stop)
+    (step : Stepped old window have ended new window′ pump stop)
     (so-far : Reached start turns ended old (take have window)) where
   -- before the call
   far : Far
@@ -74,7 +83,7 @@ module _ {start old : Tray} {turns : ℕ} {window : List ℕ} {have : ℕ} {ende
       }
 
   -- the call, where it is the last
-  last : LastCall start (trayOf (pump .tray) places ram)
+  last : LastCall start new
   unfolding far
   last =
       record {
@@ -88,7 +97,7 @@ module _ {start old : Tray} {turns : ℕ} {window : List ℕ} {have : ℕ} {ende
   -- as far as a turn has come
   reached : (next : Far) {left : List ℕ} → Progressed start (suc turns) next
       → next .tray ≡ afterCall far (step .out) .tray → next .window ≡ left
-      → Reached start (suc turns) (next .ended) (trayOf (pump .tray) places ram) left
+      → Reached start (suc turns) (next .ended) new left
   unfolding far
   reached next progressed is-tray is-left =
       rw (step .is-new ∙ sym is-tray, ← is-left)
@@ -96,7 +105,7 @@ module _ {start old : Tray} {turns : ℕ} {window : List ℕ} {have : ℕ} {ende
 
   -- it took a field, and leaves nothing to do
   stayed : stop ≢ Over → stop ≢ Hungry
-      → Reached start (suc turns) ended (trayOf (pump .tray) places ram) (take (pump .have) window′)
+      → Reached start (suc turns) ended new (take (pump .have) window′)
   unfolding far
   stayed other nor =
       let full : stop ≡ Full = is-full stop (step .stops) other nor in
@@ -106,7 +115,7 @@ module _ {start old : Tray} {turns : ℕ} {window : List ℕ} {have : ℕ} {ende
 
   -- a read behind what the call left: it failed, brought nothing, or brought a piece
   by-read : (next : Pump) (window″ : List ℕ) → stop ≡ Hungry → ReadOn pump window′ next window″
-      → Pumped start (suc turns) (trayOf (next .tray) places ram) (take (next .have) window″)
+      → Pumped start (suc turns) new (take (next .have) window″)
       (next .ended) (next .over) (next .whole)
   unfolding far last
   by-read next window″ hungry read =
@@ -125,7 +134,7 @@ module _ {start old : Tray} {turns : ℕ} {window : List ℕ} {have : ℕ} {ende
             ap (λ (left : List ℕ). left ++ piece) (sym (step .is-left)) ∙ sym (read .grown .behind)
 
         go : (failed nothing : Bool) → eqb (heard .have) (pump .have) ≡ nothing
-            → Pumped start (suc turns) (trayOf (pump .tray) places ram)
+            → Pumped start (suc turns) new
             (take (heard .have) window″) nothing failed false
         go true nothing is = over (unread last (step .is-stop ∙ hungry))
         go false true is =
@@ -145,28 +154,28 @@ module _ {start old : Tray} {turns : ℕ} {window : List ℕ} {have : ℕ} {ende
             (omega (arith, read .grown .is-more, other))) refl all)
 
 -- so far has the program come when that is done
-after-call-so : {start old : Tray} {turns : ℕ} {window : List ℕ} {have : ℕ} {ended : Bool}
-    (places ram window′ : List ℕ) (pump next : Pump) (stop : Stop) (window″ : List ℕ)
-    → Stepped old window have ended (trayOf (pump .tray) places ram) window′ pump stop
+pub after-call-so : {start old new : Tray} {turns : ℕ} {window : List ℕ} {have : ℕ} {ended : Bool}
+    (window′ : List ℕ) (pump next : Pump) (stop : Stop) (window″ : List ℕ)
+    → Stepped old window have ended new window′ pump stop
     → AfterCall pump window′ stop next window″
     → Reached start turns ended old (take have window)
-    → Pumped start (suc turns) (trayOf (next .tray) places ram) (take (next .have) window″)
+    → Pumped start (suc turns) new (take (next .have) window″)
     (next .ended) (next .over) (next .whole)
 unfolding last far
-after-call-so places ram window′ pump next stop window″ step (breaks-off broken) so-far =
+after-call-so window′ pump next stop window″ step (breaks-off broken) so-far =
     rw (broken, step .not-whole)
-    (over (broken-off (last places ram window′ pump stop step so-far) (step .breaks broken)))
-after-call-so places ram window′ pump next stop window″ step (stays taken other nor) so-far =
+    (over (broken-off (last window′ pump stop step so-far) (step .breaks broken)))
+after-call-so window′ pump next stop window″ step (stays taken other nor) so-far =
     rw (step .same-end, taken, step .not-whole)
-    (going (stayed places ram window′ pump stop step so-far other nor))
-after-call-so places ram window′ pump next stop window″ step (ends-run taken is-next) so-far =
+    (going (stayed window′ pump stop step so-far other nor))
+after-call-so window′ pump next stop window″ step (ends-run taken is-next) so-far =
     rw is-next
-    (over (finished (last places ram window′ pump stop step so-far) (step .is-stop)))
-after-call-so places ram window′ pump next stop window″ step (reads-on taken read) so-far =
-    by-read places ram window′ pump stop step so-far next window″ refl read
+    (over (finished (last window′ pump stop step so-far) (step .is-stop)))
+after-call-so window′ pump next stop window″ step (reads-on taken read) so-far =
+    by-read window′ pump stop step so-far next window″ refl read
 
 -- and its bytes are inside the window
-after-call-inside : (pump next : Pump) (window : List ℕ) (stop : Stop) (window′ : List ℕ)
+pub after-call-inside : (pump next : Pump) (window : List ℕ) (stop : Stop) (window′ : List ℕ)
     → pump .have ≤ length window → AfterCall pump window stop next window′
     → next .have ≤ length window′
 after-call-inside pump next window stop window′ inside (breaks-off _) = inside
@@ -174,26 +183,3 @@ after-call-inside pump next window stop window′ inside (stays _ _ _) = inside
 after-call-inside pump next window stop window′ inside (ends-run _ is-next) = rw is-next inside
 after-call-inside pump next window stop window′ inside (reads-on _ read) =
     rw (read .is-new) (read .grown .inside)
-
--- a call, and what it leaves to do, is a turn
-pub turned-so : (old : Tray) (called next : Pump) (stop : Stop) (have : ℕ) (ended : Bool)
-    (window places ram window′ window″ : List ℕ)
-    → Stepped old window have ended (trayOf (called .tray) places ram) window′ called stop
-    → AfterCall called window′ stop next window″
-    → Turned old window have ended (trayOf (next .tray) places ram) window″ next
-turned-so old called next stop have ended window places ram window′ window″ step behind =
-    record {
-      leads =
-          λ so-far. after-call-so places ram window′ called next stop window″ step behind so-far;
-      inside = after-call-inside called next window′ stop window″ (step .inside) behind;
-    }
-
--- where the call needs bytes, it has left room to read them
-pub stepped-room : {old new : Tray} {window window′ : List ℕ} {have : ℕ} {ended : Bool}
-    {pump : Pump} {stop : Stop} → Stepped old window have ended new window′ pump stop
-    → length window′ ≡ bufferBytes → RoomToRead (pump .have) window′ stop
-stepped-room step size =
-    record {
-      inside = step .inside;
-      room = λ hungry. omega (arith, step .room hungry, size);
-    }

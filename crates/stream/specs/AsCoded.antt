@@ -1,4 +1,4 @@
 -- How the code is cut, which no rule asks for: a reviewer of document 01 need not read it. What it
 -- comes to is said by the definitions beside this folder, and proved.
---     Turns    a call, and what it leaves to do
+--     Turns    what a call leaves to do
 pub mod Turns

@@ -7,7 +7,7 @@ ghost use mathlib.Core.Bool.{true};
 ghost use Prim.Native.Nat.{_≤_, _<_};
 ghost use lib.ListN.{length};
 ghost use Rattle.tray.specs.Run.{trayAtStart};
-ghost use Rattle.tray.specs.AsCoded.Held.{trayOf};
+ghost use Rattle.tray.specs.AsCoded.Held.{trayOf, heldAtStart};
 ghost use Rattle.stream.specs.Came.{Came};
 ghost use Rattle.stream.specs.AsCoded.Turns.{
   Buffers,
@@ -16,9 +16,9 @@ ghost use Rattle.stream.specs.AsCoded.Turns.{
   Grown,
   afterRead,
   ReadOn,
-  Stepped,
   AfterCall,
-  Turned,
+  ToSettle,
+  Settled,
 };
 use io;
 use libc;
@@ -28,20 +28,13 @@ use tray;
 use tray::Stop;
 use tray::Tray;
 
-// How far a program has come: the run, the bytes in its window, whether the input has ended,
+// How far a program has come beside its run: the bytes in its window, whether the input has ended,
 // whether the program has, and whether by the run's own end with every line taken.
 struct Pump {
-    tray: Tray,
     have: usize,
     ended: bool,
     over: bool,
     whole: bool,
-}
-
-// What a call leaves, and why it stopped.
-struct Called {
-    pump: Pump,
-    stop: Stop,
 }
 
 // What a run leaves, and whether it is whole: it came to its own end, and the operating system took
@@ -91,39 +84,13 @@ fn fails_to_write(out: &[u8], put: usize) -> bool
 }
 
 impl Pump {
-    fn finished(mut self) -> Pump
-        ensures { λ pump. ⌜ pump ≡ record {
-          tray = self .tray;
-          have = self .have;
-          ended = self .ended;
-          over = true;
-          whole = true;
-        } ⌝ }
-    {
-        self.over = true;
-        self.whole = true;
-        self
-    }
-
-    fn done(self) -> Done
-        ensures { λ done. ⌜ done ≡ record { tray = self .tray; whole = self .whole } ⌝ }
-    {
-        let tray = self.tray;
-        Done {
-            tray: tray,
-            whole: self.whole,
-        }
-    }
-
     // A read that brings nothing ends the input. One that failed is no end: it ends the program,
     // and no last line is printed.
     fn after_read(self, heard: Heard) -> Pump
         ensures { λ pump. ⌜ pump ≡ afterRead self heard ⌝ }
     {
-        let tray = self.tray;
         let failed = is_failure(heard.answer);
         Pump {
-            tray: tray,
             have: heard.have,
             ended: heard.have == self.have,
             over: failed,
@@ -141,43 +108,8 @@ impl Pump {
         self.after_read(heard)
     }
 
-    // A call, and its lines written. A write that fails ends the program.
-    fn call(
-        self,
-        places: &mut [u16; 256],
-        ram: &mut [u16],
-        window: &mut [u8],
-        out: &mut [u8],
-    ) -> Called
-        requires { ⌜ Buffers (self .have) (now window) (now out) ⌝ }
-        ensures { λ left. ⌜ Stepped
-            (trayOf (self .tray) (now (places .entry)) (now (ram .entry)))
-            (now (window .entry)) (self .have) (self .ended)
-            (trayOf (left .pump .tray) (now (places .exit)) (now (ram .exit)))
-            (now (window .exit)) (left .pump) (left .stop) ⌝ }
-    {
-        let tray = self.tray;
-        let have = self.have;
-        let passed = tray::run_window(tray, places, ram, &window[0..have], out, self.ended);
-        let new = passed.tray;
-        let stop = passed.stop;
-        let put = passed.put;
-        let failed = fails_to_write(out, put);
-        let left = tray::keep_rest(window, passed.at, have);
-        Called {
-            pump: Pump {
-                tray: new,
-                have: left,
-                ended: self.ended,
-                over: failed,
-                whole: false,
-            },
-            stop: stop,
-        }
-    }
-
-    // What a call leaves to do: nothing where its lines were not taken, even if they were the last;
-    // a read where it needs bytes.
+    // Nothing is left to do where the lines of a call were not taken, even if they were the last; a
+    // read where it needs bytes.
     fn after_call(self, window: &mut [u8], stop: Stop) -> Pump
         requires { ⌜ RoomToRead (self .have) (now window) stop ⌝ }
         ensures { λ pump. ⌜ AfterCall self (now (window .entry)) stop pump (now (window .exit)) ⌝ }
@@ -188,29 +120,68 @@ impl Pump {
         match stop {
             Stop::Going => self,
             Stop::Full => self,
-            Stop::Over => self.finished(),
+            Stop::Over => Pump {
+                have: self.have,
+                ended: self.ended,
+                over: true,
+                whole: true,
+            },
             Stop::Hungry => self.read_on(window),
         }
     }
 
-    fn turn(
-        self,
-        places: &mut [u16; 256],
-        ram: &mut [u16],
-        window: &mut [u8],
-        out: &mut [u8],
-    ) -> Pump
-        requires { ⌜ Buffers (self .have) (now window) (now out) ⌝ }
-        ensures { λ pump. ⌜ Turned
-            (trayOf (self .tray) (now (places .entry)) (now (ram .entry)))
-            (now (window .entry)) (self .have) (self .ended)
-            (trayOf (pump .tray) (now (places .exit)) (now (ram .exit)))
-            (now (window .exit)) pump ⌝ }
+    // What a call leaves to do. Its lines are written, and a write that fails ends the program. The
+    // bytes that it did not take stay in the window.
+    fn settle(self, window: &mut [u8], out: &[u8], at: usize, put: usize, stop: Stop) -> Pump
+        requires { ⌜ ToSettle (self .have) (now window) (now out) at put stop ⌝ }
+        ensures { λ pump. ⌜ Settled self (now (window .entry)) at put stop
+            pump (now (window .exit)) ⌝ }
     {
-        let left = self.call(places, ram, window, out);
-        let stop = left.stop;
-        let next = left.pump;
+        let failed = fails_to_write(out, put);
+        let left = tray::keep_rest(window, at, self.have);
+        let next = Pump {
+            have: left,
+            ended: self.ended,
+            over: failed,
+            whole: false,
+        };
         next.after_call(window, stop)
+    }
+}
+
+// Runs the recording on standard input from its start, over what the lent memory holds. A turn is a
+// call and what it leaves to do.
+fn run_pieces(places: &mut [u16; 256], ram: &mut [u16], window: &mut [u8], out: &mut [u8]) -> Done
+    requires { ⌜ Buffers 0 (now window) (now out) ⌝ }
+    ensures { λ done. ⌜ Came (trayOf heldAtStart (now (places .entry)) (now (ram .entry)))
+        (trayOf (done .tray) (now (places .exit)) (now (ram .exit)))
+        (done .whole) ⌝ }
+{
+    let mut tray = Tray::at_start();
+    let mut pump = Pump {
+        have: 0,
+        ended: false,
+        over: false,
+        whole: false,
+    };
+    let mut turns = u64::MAX;
+    while turns > 0 {
+        if pump.over {
+            return Done {
+                tray: tray,
+                whole: pump.whole,
+            };
+        }
+        let have = pump.have;
+        let passed = tray::run_window(tray, places, ram, &window[0..have], out, pump.ended);
+        tray = passed.tray;
+        let stop = passed.stop;
+        pump = pump.settle(window, out, passed.at, passed.put, stop);
+        turns -= 1;
+    }
+    Done {
+        tray: tray,
+        whole: pump.whole,
     }
 }
 
@@ -222,26 +193,7 @@ pub fn run_input(places: &mut [u16; 256], ram: &mut [u16; 16384]) -> Done
 {
     *places = [0; 256];
     *ram = [0; 16384];
-    let memory: &mut [u16] = ram;
-    let mut bytes = io::large_buffer();
-    let window: &mut [u8] = &mut bytes;
-    let mut lines = io::large_buffer();
-    let out: &mut [u8] = &mut lines;
-    let tray = Tray::at_start();
-    let mut pump = Pump {
-        tray: tray,
-        have: 0,
-        ended: false,
-        over: false,
-        whole: false,
-    };
-    let mut turns = u64::MAX;
-    while turns > 0 {
-        if pump.over {
-            return pump.done();
-        }
-        pump = pump.turn(places, memory, window, out);
-        turns -= 1;
-    }
-    pump.done()
+    let mut window = io::large_buffer();
+    let mut out = io::large_buffer();
+    run_pieces(places, ram, &mut window, &mut out)
 }

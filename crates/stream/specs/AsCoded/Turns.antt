@@ -1,38 +1,20 @@
--- The turns of a program that reads a recording in pieces and writes its lines: a call, and what it
--- leaves to do. Definitions only. Assumes nothing.
+-- A turn of a program that reads a recording in pieces and writes its lines: what a call leaves to
+-- do. Definitions only. Assumes nothing.
 use mathlib.Core.Path.{_≡_}
 use mathlib.Core.Logic.{_≢_}
 use mathlib.Core.Bool.{Bool, true, false}
 use mathlib.Core.List.{List, _++_}
-use Prim.Native.Nat.{ℕ, suc, _+_, _≤_, _<_}
+use Prim.Native.Nat.{ℕ, _+_, _-_, _≤_, _<_}
 use lib.Dec.{eqb}
 use lib.IntN.{ℤ, pos, negsuc}
-use lib.ListN.{length, take, drop}
+use lib.ListN.{length, take}
+use Rattle.lines.specs.Written.{put}
 use Rattle.tray.specs.declared.window.Stop.{Stop}
-use Rattle.tray.specs.declared.window.Stop.the-variants.{Going, Hungry, Full, Over}
-use Rattle.tray.specs.Run.{Tray}
-use Rattle.tray.specs.AsCoded.Window.{windowRun}
+use Rattle.tray.specs.declared.window.Stop.the-variants.{Hungry, Over}
+use Rattle.tray.specs.AsCoded.Window.{keptRest}
 use Rattle.stream.specs.declared.Heard.{Heard}
 use Rattle.stream.specs.declared.Pump.{Pump}
-use Rattle.stream.specs.Progress.{bufferBytes, Progressed}
-use Rattle.stream.specs.Came.{Came}
-
--- in so many turns some input was read and some text printed; these bytes are left in the window
-pub record Reached (start : Tray) (turns : ℕ) (ended : Bool) (new : Tray) (window : List ℕ)
-    : Type 0 where
-  pub input : List ℕ
-  pub text : List ℕ
-  pub progressed : Progressed start turns
-      (record { ended = ended; input = input; text = text; tray = new; window = window })
-
--- `Pumped start turns new window ended over whole`: the program goes on after so many turns, with
--- these bytes in its window, or it is over, and its run whole or not
-pub data Pumped (start : Tray) (turns : ℕ) : Tray → List ℕ → Bool → Bool → Bool → Type 0 where
-  going : {ended : Bool} {new : Tray} {window : List ℕ}
-      → Reached start turns ended new window
-      → Pumped start turns new window ended false false
-  over : {ended whole : Bool} {new : Tray} {window : List ℕ} → Came start new whole
-      → Pumped start turns new window ended true whole
+use Rattle.stream.specs.Progress.{bufferBytes}
 
 -- so many bytes of the window count, and both buffers have their size
 pub record Buffers (have : ℕ) (window out : List ℕ) : Type 0 where
@@ -64,7 +46,6 @@ pub record Grown (window : List ℕ) (have : ℕ) (window′ : List ℕ) (heard 
 abbrev pub afterRead : Pump → Heard → Pump
 afterRead old heard =
     record {
-      tray = old .tray;
       have = heard .have;
       ended = eqb (heard .have) (old .have);
       over = isFailure (heard .answer);
@@ -77,26 +58,7 @@ pub record ReadOn (old : Pump) (window : List ℕ) (new : Pump) (window′ : Lis
   pub grown : Grown window (old .have) window′ heard
   pub is-new : new ≡ afterRead old heard
 
--- ---- a call
-
--- a call, over so many bytes in the window, and what of them is left. It took a field or more where
--- it had no room for another line, and leaves room in the window where it needs bytes
-pub record Stepped (old : Tray) (window : List ℕ) (have : ℕ) (ended : Bool)
-    (new : Tray) (window′ : List ℕ) (pump : Pump) (stop : Stop) : Type 0 where
-  pub out : List ℕ
-  pub is-new : new ≡ windowRun old (take have window) ended out .tray
-  pub is-stop : windowRun old (take have window) ended out .stop ≡ stop
-  pub is-left : take (pump .have) window′
-      ≡ drop (windowRun old (take have window) ended out .at) (take have window)
-  pub breaks : pump .over ≡ true → windowRun old (take have window) ended out .put ≢ 0
-  pub stops : stop ≢ Going
-  pub took : stop ≡ Full → 0 < windowRun old (take have window) ended out .at
-  pub room : stop ≡ Hungry → pump .have < bufferBytes
-  pub inside : pump .have ≤ length window′
-  pub same-end : pump .ended ≡ ended
-  pub not-whole : pump .whole ≡ false
-
--- ---- what it leaves to do
+-- ---- what a call leaves to do
 
 -- where the call needed bytes there is room to read them
 pub record RoomToRead (have : ℕ) (window : List ℕ) (stop : Stop) : Type 0 where
@@ -111,7 +73,6 @@ pub data AfterCall (pump : Pump) (window : List ℕ) : Stop → Pump → List �
       → AfterCall pump window stop pump window
   ends-run : {next : Pump} → pump .over ≡ false
       → next ≡ record {
-        tray = pump .tray;
         have = pump .have;
         ended = pump .ended;
         over = true;
@@ -121,10 +82,21 @@ pub data AfterCall (pump : Pump) (window : List ℕ) : Stop → Pump → List �
   reads-on : {next : Pump} {window′ : List ℕ} → pump .over ≡ false
       → ReadOn pump window next window′ → AfterCall pump window Hungry next window′
 
--- the two together are a turn
-pub record Turned (old : Tray) (window : List ℕ) (have : ℕ) (ended : Bool)
-    (new : Tray) (window′ : List ℕ) (pump : Pump) : Type 0 where
-  pub leads : {start : Tray} {turns : ℕ} → Reached start turns ended old (take have window)
-      → Pumped start (suc turns) new (take (pump .have) window′)
-      (pump .ended) (pump .over) (pump .whole)
-  pub inside : pump .have ≤ length window′
+-- so many bytes count in the window, and so many in the buffer for lines; where the call needed
+-- bytes there is room for them behind those that it did not take
+pub record ToSettle (have : ℕ) (window out : List ℕ) (at lines : ℕ) (stop : Stop) : Type 0 where
+  pub inside : have ≤ length window
+  pub lines-inside : lines ≤ length out
+  pub room : stop ≡ Hungry → have - at < length window
+
+-- a call took so many bytes and put so many: its lines were written or not, which tells whether the
+-- program is over, the bytes that it did not take are kept, and what is left to do then is done
+pub record Settled (old : Pump) (window : List ℕ) (at lines : ℕ) (stop : Stop)
+    (new : Pump) (window′ : List ℕ) : Type 0 where
+  pub called : Pump
+  pub kept : List ℕ
+  pub is-kept : put (called .have) kept ≡ keptRest window at (old .have)
+  pub breaks : called .over ≡ true → lines ≢ 0
+  pub same-end : called .ended ≡ old .ended
+  pub not-whole : called .whole ≡ false
+  pub behind : AfterCall called kept stop new window′

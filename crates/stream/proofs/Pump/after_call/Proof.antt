@@ -17,9 +17,6 @@ enum-told-2 c = search needs
 enum-told-3 : tie.Need-enum-told-3
 enum-told-3 c = search needs
 
-finished-requires : tie.Need-finished-requires
-finished-requires c κs = search needs
-
 enum-told-4 : tie.Need-enum-told-4
 enum-told-4 c = search needs
 
@@ -49,7 +46,6 @@ after-call-spec =
     enum-told
     enum-told-2
     enum-told-3
-    finished-requires
     enum-told-4
     read-on-requires
     returns-2

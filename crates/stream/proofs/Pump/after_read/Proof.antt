@@ -11,7 +11,7 @@ is-failure-requires c κs = search needs
 
 returns : tie.Need-returns
 returns c =
-    let start = c .before .before .before .before .before in
+    let start = c .before .before .before .before in
     let known = c .before .before .before .struct-told .given in
     rw (
       c .before .before .is-failure .ensures,
