@@ -173,13 +173,14 @@ no-failure lines is = absurd (clash (cc))
 module _ (old : Pump) (window out : List ℕ) (at lines : ℕ) (stop : Stop) (kept : List ℕ) (left : ℕ)
     (there : ToSettle (old .have) window out at lines stop)
     (is-kept : put left kept ≡ keptRest window at (old .have)) where
-  -- there is room to read where it needs bytes
-  pub settles-room : length kept ≡ length window → RoomToRead left kept stop
-  settles-room same =
+  -- there is room to read where it needs bytes, behind no more than are left
+  pub settles-room : (have : ℕ) → have ≤ left → length kept ≡ length window
+      → RoomToRead have kept stop
+  settles-room have few same =
       let rest = rest-kept window at (old .have) kept left (there .inside) is-kept in
       record {
-        inside = rest .inside;
-        room = λ hungry. omega (arith, rest .is-left, there .room hungry, same);
+        inside = omega (arith, few, rest .inside);
+        room = λ hungry. omega (arith, few, rest .is-left, there .room hungry, same);
       }
 
 module _ (pump : Pump) (window : List ℕ) (stop : Stop) where

@@ -21,6 +21,7 @@ use check;
 use io;
 use queue::Ring;
 use terminal::state::Core;
+use terminal::state::Held;
 
 // What every word of the RAM is before a call.
 const GIVEN: u16 = 0x1234;
@@ -38,18 +39,10 @@ fn done(answered: Answered) -> Done {
     }
 }
 
-fn word(given: Terminal, ram: &mut [u16], row: &[u8]) -> Done {
-    done(given.word(ram, notation::byte_in(row, 3), 0x2C61, 9))
-}
-
-fn silence(given: Terminal, ram: &mut [u16], row: &[u8]) -> Done {
-    done(given.silence(ram, notation::byte_in(row, 3), 9))
-}
-
-fn write(given: Terminal, ram: &mut [u16], row: &[u8]) -> Done {
+fn write(given: Terminal, ram: &mut [u16], address: u16, count: u16) -> Done {
     let words: [u16; 65] = [0x5555; 65];
-    let end = (notation::word_in(row, 2) % 66) as usize;
-    given.host_write(ram, notation::word_in(row, 1), &words[0..end])
+    let end = (count % 66) as usize;
+    given.host_write(ram, address, &words[0..end])
 }
 
 fn number_if(right: bool, number: u8) -> u8 {
@@ -60,16 +53,11 @@ fn number_if(right: bool, number: u8) -> u8 {
 }
 
 // A part that is refused is empty; one that is shown has the words that were asked for.
-fn part(given: Terminal, ram: &[u16], row: &[u8]) -> Done {
-    let block = Block(notation::word_in(row, 1));
-    let count = notation::word_in(row, 2);
+fn part_refusal(ram: &[u16], block: Block, count: u16) -> u8 {
     let number = sent::refusal(ram, CARD_BLOCKS, block, count);
     let shown = sent::part(ram, CARD_BLOCKS, block, count).len();
     let right = ((number == 0) & (shown == count as usize)) | ((number != 0) & (shown == 0));
-    Done {
-        refusal: number_if(right, number),
-        terminal: given,
-    }
+    number_if(right, number)
 }
 
 // A read that is refused has no word.
@@ -89,33 +77,54 @@ fn setup(given: Terminal) -> Done {
 }
 
 // The actions that take no RAM.
-fn perform_alone(given: Terminal, row: &[u8]) -> Done {
-    match notation::byte_in(row, 1) {
+fn perform_alone(given: Terminal, action: u8, first: u16) -> Done {
+    match action {
         0 => setup(given),
         4 => read(given),
-        5 => given.move_table(notation::word_in(row, 1)),
-        _ => given.set_flags(notation::word_in(row, 1)),
+        5 => given.move_table(first),
+        _ => given.set_flags(first),
     }
 }
 
-fn perform(given: Terminal, ram: &mut [u16], row: &[u8]) -> Done {
-    match notation::byte_in(row, 1) {
-        1 => word(given, ram, row),
-        2 => silence(given, ram, row),
-        3 => write(given, ram, row),
-        7 => part(given, ram, row),
-        _ => perform_alone(given, row),
+// An action with its arguments.
+fn perform(given: Terminal, ram: &mut [u16], action: u8, first: u16, second: u16) -> Done {
+    let low = (first % 256) as u8;
+    match action {
+        1 => done(given.word(ram, low, 0x2C61, 9)),
+        2 => done(given.silence(ram, low, 9)),
+        3 => write(given, ram, first, second),
+        7 => Done {
+            refusal: part_refusal(ram, Block(first), second),
+            terminal: given,
+        },
+        _ => perform_alone(given, action, first),
     }
+}
+
+fn call(row: &[u8], ram: &mut [u16]) -> Done {
+    let given = given::terminal_of(row);
+    let first = notation::word_in(row, 1);
+    perform(
+        given,
+        ram,
+        notation::byte_in(row, 1),
+        first,
+        notation::word_in(row, 2),
+    )
 }
 
 // ---- what is left
 
 // All but the queue's places.
 fn put_terminal(out: &mut [u8], refusal: u8, core: Core, ring: Ring) -> usize {
+    let held = Held {
+        core: core,
+        ring: ring,
+    };
     let station = notation::put_byte(out, 0, refusal);
     let flags = notation::put_pair(out, station, core.station, core.table.0);
     let state = notation::put_pair(out, flags, core.flags, ring.start);
-    recordings::put_state(out, state, core, ring)
+    recordings::put_state(out, state, held)
 }
 
 fn put_done(out: &mut [u8], made: Done, place: u16) -> usize {
@@ -127,10 +136,12 @@ fn put_done(out: &mut [u8], made: Done, place: u16) -> usize {
     notation::put_others(out, places, &queue.places, place)
 }
 
-fn call(row: &[u8], ram: &mut [u16], out: &mut [u8]) -> usize {
-    let made = perform(given::terminal_of(row), ram, row);
-    let cells = put_done(out, made, notation::word_in(row, 9));
-    notation::put_others(out, cells, ram, GIVEN)
+// Whether a call made this of the terminal, and left this of the RAM.
+fn is_left(made: Done, ram: &[u16], place: u16, wanted: &[u8]) -> bool {
+    let mut bytes = io::buffer();
+    let cells = put_done(&mut bytes, made, place);
+    let end = notation::put_others(&mut bytes, cells, ram, GIVEN);
+    check::same(notation::part(&bytes, 0, end), wanted)
 }
 
 // ---- the cases
@@ -143,9 +154,9 @@ fn leaves(row: &[u8], wanted: &[u8]) -> bool {
     if ram.len() < size {
         return false;
     }
-    let mut bytes = io::buffer();
-    let end = call(row, &mut ram[0..size], &mut bytes);
-    check::same(notation::part(&bytes, 0, end), wanted)
+    let part = &mut ram[0..size];
+    let made = call(row, part);
+    is_left(made, part, notation::word_in(row, 9), wanted)
 }
 
 // Whether a case comes out as it should, behind what its group begins with.

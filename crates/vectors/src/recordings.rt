@@ -7,8 +7,8 @@ use message::state::Message;
 use message::state::Stage;
 use queue::Ring;
 use terminal::state::Core;
+use terminal::state::Held;
 use tray;
-use tray::Passed;
 use tray::Tray;
 
 // ---- what a run leaves, in the bytes of the notation
@@ -46,7 +46,9 @@ fn put_message(out: &mut [u8], at: usize, message: Message) -> usize {
     }
 }
 
-pub(crate) fn put_state(out: &mut [u8], at: usize, core: Core, ring: Ring) -> usize {
+pub(crate) fn put_state(out: &mut [u8], at: usize, held: Held) -> usize {
+    let core = held.core;
+    let ring = held.ring;
     let message = core.message;
     let words = notation::put_pair(out, at, core.status, core.last);
     let marks = notation::put_byte(out, words, marks_of(core, ring));
@@ -54,51 +56,47 @@ pub(crate) fn put_state(out: &mut [u8], at: usize, core: Core, ring: Ring) -> us
     put_message(out, waiting, message)
 }
 
-fn put_run(out: &mut [u8], passed: Passed) -> usize {
-    let tray = passed.tray;
-    let held = tray.held;
-    let core = held.core;
-    let ring = held.ring;
-    put_state(out, passed.put, core, ring)
-}
-
 // ---- a case
 
-// Runs a recording on a new card. Puts its lines and, behind them, what it leaves.
-fn run_recording(recording: &[u8], out: &mut [u8]) -> usize {
-    let mut places: [u16; 256] = [0; 256];
-    let mut ram: [u16; 16384] = [0; 16384];
-    let passed = tray::run_window(
-        Tray::at_start(),
-        &mut places,
-        &mut ram,
-        recording,
-        out,
-        true,
-    );
-    let next = put_run(out, passed);
-    notation::put_others(out, next, &ram, 0)
+// Runs a recording over the lent memory. Puts its lines and, behind them, the state that it leaves.
+fn run(recording: &[u8], places: &mut [u16; 256], ram: &mut [u16], out: &mut [u8]) -> usize {
+    let passed = tray::run_window(Tray::at_start(), places, ram, recording, out, true);
+    let tray = passed.tray;
+    let held = tray.held;
+    put_state(out, passed.put, held)
 }
 
-// Whether a recording prints the lines of a text, and leaves what it says behind them.
-fn leaves(recording: &[u8], text: &[u8]) -> bool {
+// Runs a recording on a new card. Puts the cells too.
+fn run_recording(recording: &[u8], out: &mut [u8]) -> usize {
+    let mut places: [u16; 256] = [0; 256];
+    let mut cells: [u16; 16384] = [0; 16384];
+    let ram: &mut [u16] = &mut cells;
+    let next = run(recording, &mut places, ram, out);
+    notation::put_others(out, next, ram, 0)
+}
+
+// Whether a recording prints these lines, and leaves this.
+fn leaves(recording: &[u8], lines: &[u8], wanted: &[u8]) -> bool {
     let mut bytes = io::large_buffer();
     let size = run_recording(recording, &mut bytes);
-    let end = notation::place_of(text, 0, b'=');
-    let mut wanted = io::large_buffer();
-    let count = notation::read_hex(notation::part(text, end, text.len()), &mut wanted, 0);
-    let state = notation::part(&bytes, end, size);
-    check::same(notation::part(&bytes, 0, end), notation::part(text, 0, end))
-        & check::same(state, notation::part(&wanted, 0, count))
+    let end = lines.len();
+    check::same(notation::part(&bytes, 0, end), lines)
+        & check::same(notation::part(&bytes, end, size), wanted)
 }
 
 // Whether a case comes out as it should, behind what its group begins with.
 pub(crate) fn holds(before: &[u8], text: &[u8]) -> bool {
-    let start = notation::after(text, 0, b'\n');
-    let end = notation::after(text, start, b'>');
     let mut bytes = io::large_buffer();
-    let size = notation::read_hex(before, &mut bytes, 0);
-    let count = notation::read_hex(notation::part(text, start, end), &mut bytes, size);
-    let lines = notation::part(text, notation::after(text, end, b'\n'), text.len());
-    leaves(notation::part(&bytes, 0, count), lines)
+    let title = notation::after(text, 0, b'\n');
+    let sign = notation::place_of(text, title, b'>');
+    let lines = notation::after(text, sign, b'\n');
+    let state = notation::place_of(text, lines, b'=');
+    let start = notation::read_hex(before, &mut bytes, 0);
+    let end = notation::read_hex(notation::part(text, title, sign), &mut bytes, start);
+    let left = notation::read_hex(notation::part(text, state, text.len()), &mut bytes, end);
+    leaves(
+        notation::part(&bytes, 0, end),
+        notation::part(text, lines, state),
+        notation::part(&bytes, end, left),
+    )
 }
