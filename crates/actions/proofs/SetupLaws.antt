@@ -1,4 +1,5 @@
--- What setup returns is fit, `fit-at-setup`; what it returns where it refuses is not. Assumes nothing.
+-- What setup returns is fit, `fit-at-setup`; what it returns where it refuses is not. Assumes
+-- nothing.
 use mathlib.Core.Path.{_≡_, refl}
 use mathlib.Core.Bool.{true, false}
 use Prim.Native.Nat.{ℕ, _≤_, _<_}

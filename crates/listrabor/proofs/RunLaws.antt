@@ -51,7 +51,8 @@ module _ (recording ram out : List ℕ) (number : ℕ)
         let few : length recording < mostTurns = omega (arith, long, enough) in
         let done : passedOf left places ram′ out′ ≡ windowRun old recording true out =
         is
-        ∙ ap (λ (first : HeldTray). windowRun (trayOf first (replicate 256 0) ram) recording true out)
+        ∙ ap
+        (λ (first : HeldTray). windowRun (trayOf first (replicate 256 0) ram) recording true out)
         at-start in
         ap (λ (call : Passed). lent (call .put) (call .tray .card .ram) (call .out)) done
         ∙ rw (

@@ -1,6 +1,6 @@
 -- The bounds of the table `specs/Asked.antt`, kind by kind: no message takes or sends more than 32
--- words, whatever takes words has a block, a chain has a cell of the table, and one that sends has a
--- cell from 32 on. Assumes nothing.
+-- words, whatever takes words has a block, a chain has a cell of the table, and one that sends has
+-- a cell from 32 on. Assumes nothing.
 use mathlib.Core.Path.{_≡_, refl}
 use mathlib.Core.Bool.{Bool, true, false, cond}
 use Prim.Native.Nat.{ℕ, _≤_, _<_}

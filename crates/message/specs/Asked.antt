@@ -71,8 +71,8 @@ yields = true
 abbrev pub serves : Bool
 serves = false
 
--- whether its opening makes the remembered status anew, and whether it keeps the last command, which
--- its reply then sends
+-- whether its opening makes the remembered status anew, and whether it keeps the last command,
+-- which its reply then sends
 pub record Keeps : Type 0 where
   pub fresh : Bool
   pub last : Bool

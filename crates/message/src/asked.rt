@@ -152,7 +152,8 @@ pub fn asked_of(command: u16) -> Asked
 
 impl OpenMessage {
     // What the command of an open message asks, where the message is picked up. Said by its own
-    // calls, so that the opening alone calls `asked_of` and the compiler makes that part of its loop.
+    // calls, so that the opening alone calls `asked_of` and the compiler makes that part of its
+    // loop.
     pub fn asks(self) -> Asked
         ensures { λ asked. ⌜ asked ≡ asks self ⌝ }
     {

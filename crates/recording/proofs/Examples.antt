@@ -39,7 +39,9 @@ table-block-256-is-refused = refl
 
 -- a word waits for its last byte; an unknown tag waits for nothing
 what-waits-for-bytes :
-    isSettled (readAt (take 9 command) 0 setupSeen) ∷ isSettled (readAt (0x08 ∷ []) 0 setupSeen) ∷ []
+    isSettled (readAt (take 9 command) 0 setupSeen)
+    ∷ isSettled (readAt (0x08 ∷ []) 0 setupSeen)
+    ∷ []
     ≡ false ∷ true ∷ []
 unfolding readAt tagOf lengthFits fieldAt
 what-waits-for-bytes = refl

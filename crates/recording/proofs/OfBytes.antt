@@ -84,7 +84,8 @@ module _ (bytes : List ℕ) (are : (place : ℕ) → byteAt bytes place < 256) w
       by-test NotThree (not (lengthFits tag size)) (λ _ is. omega arith) (λ _.
       by-test NotThree (ltb left (3 + size)) (λ _ is. omega arith) (λ _.
       by-test NotThree (not (isDue tag seen)) (λ _ is. omega arith) (λ _.
-      by-test NotThree (eqb (valueRefusal cardBlocks (fieldAt bytes tag (place + 3) size)) 0) (λ _. tt)
+      by-test NotThree (eqb (valueRefusal cardBlocks (fieldAt bytes tag (place + 3) size)) 0)
+      (λ _. tt)
       (λ _. value-not-three tag (place + 3) size)))))))
     where
       left : ℕ

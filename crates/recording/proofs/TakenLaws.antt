@@ -90,7 +90,8 @@ reading-tells bytes place seen =
       in-order = eqb-true (valueRefusal cardBlocks field) 0 in-order;
       is-next = refl;
     })
-    (λ refusal. refused (numbered field (eqb-false (valueRefusal cardBlocks field) 0 refusal)))))))))
+    (λ refusal.
+    refused (numbered field (eqb-false (valueRefusal cardBlocks field) 0 refusal)))))))))
   where
     Claim : Reading → Type 0
     Claim = Tells bytes place seen

@@ -1,5 +1,5 @@
--- What the last arm of a `match` on a number knows, where the arms before it name 0, 1 and so on: the
--- number is none of them. Assumes nothing.
+-- What the last arm of a `match` on a number knows, where the arms before it name 0, 1 and so on:
+-- the number is none of them. Assumes nothing.
 use mathlib.Core.Path.{_≡_}
 use Prim.Native.Nat.{ℕ, zero, suc, _≤_}
 use native.Mathlib.Omega.{arith}

@@ -9,7 +9,7 @@
 --     Chains          the chain rule and what may be written, at work, and what is false with less
 --     Closings        a closing keeps the data of its block, and what is false with less
 --     Rest            whole, fit and at rest, a card stays so, and what is false with less
---     Statuses        the remembered status keeps its station's address, and what is false with less
+--     Statuses        the remembered status keeps its address, and what is false with less
 --     Sent            the words of a reply are those of the silence
 --     ByActions       the library's actions make document 01's run; what is refused with less
 --     Answers         an answer and an end: a recording that is accepted, and one that is refused

@@ -1,6 +1,6 @@
--- A card that is whole and fit, and one at rest, at work on document 01's tray run: it stays so, and
--- its blocks lie in its memory. And each claim with less asked, false by a card that the checker
--- computes. Assumes nothing.
+-- A card that is whole and fit, and one at rest, at work on document 01's tray run: it stays so,
+-- and its blocks lie in its memory. And each claim with less asked, false by a card that the
+-- checker computes. Assumes nothing.
 use mathlib.Core.Path.{_≡_, refl}
 use mathlib.Core.Bool.{Bool, true, false}
 use mathlib.Core.List.{[], _∷_}

@@ -1,5 +1,5 @@
--- The ten marked cases (a) to (j) of document 01 as one table: recordings, what they print, and what
--- they leave in the card's 16,384 words. Definitions only. Assumes nothing.
+-- The ten marked cases (a) to (j) of document 01 as one table: recordings, what they print, and
+-- what they leave in the card's 16,384 words. Definitions only. Assumes nothing.
 use mathlib.Core.List.{List, [], _∷_, _++_}
 use Prim.Native.Nat.{ℕ, zero, suc, _/_, _%_}
 use Rattle.lines.specs.Lines.{statusLine, queueLine, endLine, refusalLine}

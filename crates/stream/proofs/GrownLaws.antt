@@ -1,5 +1,5 @@
--- What a read answers, and where its piece is: the part that was lent to it comes back in its place,
--- behind the bytes that are there, and so many of its bytes count. Assumes nothing.
+-- What a read answers, and where its piece is: the part that was lent to it comes back in its
+-- place, behind the bytes that are there, and so many of its bytes count. Assumes nothing.
 use mathlib.Core.Path.{_≡_, refl, sym, ap, _∙_}
 use mathlib.Core.List.{List, _++_}
 use Prim.Native.Nat.{ℕ, _+_, _<_}

@@ -1,5 +1,5 @@
--- A call that needs bytes leaves fewer in the window than the longest field has, so there is room to
--- read. Assumes nothing.
+-- A call that needs bytes leaves fewer in the window than the longest field has, so there is room
+-- to read. Assumes nothing.
 use mathlib.Core.Path.{_≡_, refl, sym, ap, subst, _∙_}
 use mathlib.Core.Logic.{_≢_}
 use mathlib.Core.Bool.{Bool, true, false, not, _&&_}

@@ -1,6 +1,6 @@
 -- How far a program has come that reads a recording in pieces, turn by turn. A turn is a call and,
--- where the call needs bytes, a read. Every turn takes a field or reads a byte, but for the one that
--- finds the end of the input. Definitions only. Assumes nothing.
+-- where the call needs bytes, a read. Every turn takes a field or reads a byte, but for the one
+-- that finds the end of the input. Definitions only. Assumes nothing.
 use mathlib.Core.Path.{_≡_}
 use mathlib.Core.Bool.{Bool, true, false}
 use mathlib.Core.List.{List, [], _++_}

@@ -70,7 +70,8 @@ module _ (asked : Asked) (tableWord : ℕ) (word : Word) (core : Core) where
   pub status-made : (busy : Bool) (status : Status) (made : ℕ) → not (asked .fresh) ≡ false
       → busy ≡ busyAt asked (core .flags) tableWord
       → status
-      ≡ caughtStatus (core .station) (asked .illegal) (word .value) (core .flags) busy (core .inhibit)
+      ≡ caughtStatus (core .station) (asked .illegal) (word .value) (core .flags) busy
+      (core .inhibit)
       → made ≡ statusWord status
       → made ≡ openedStatus asked tableWord word core
   unfolding openedStatus

@@ -1,5 +1,6 @@
--- The laws of `specs/WordStep.antt`, `specs/SilenceStep.antt` and `specs/AsCoded/Deed.antt`, as the code
--- does what was decided: a law for each deed, and deeds come to what the acts ask. Assumes nothing.
+-- The laws of `specs/WordStep.antt`, `specs/SilenceStep.antt` and `specs/AsCoded/Deed.antt`, as the
+-- code does what was decided: a law for each deed, and deeds come to what the acts ask. Assumes
+-- nothing.
 use mathlib.Core.Path.{_≡_, refl, sym, ap, _∙_}
 use mathlib.Core.Bool.{Bool, true, false, cond, not}
 use mathlib.Core.List.{List}

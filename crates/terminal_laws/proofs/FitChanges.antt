@@ -33,7 +33,8 @@ use Rattle.terminal_laws.proofs.FitMessage.{opened-fits}
 -- ---- going on and opening
 
 -- the core with another message, or none
-fit-with-message : (message : Message) (core : Core) → fitMessage cardBlocks message (core .station) ≡ true
+fit-with-message : (message : Message) (core : Core)
+    → fitMessage cardBlocks message (core .station) ≡ true
     → fitCore cardBlocks core ≡ true → fitCore cardBlocks (withMessage message core) ≡ true
 unfolding withMessage
 fit-with-message message core fit-message fit =

@@ -58,7 +58,11 @@ use Rattle.terminal_laws.proofs.FitParts.{
   fit-open-parts,
   FitCard,
 }
-use Rattle.terminal_laws.proofs.FitMessage.{fits-with-word, fits-with-second, fits-with-status}
+use Rattle.terminal_laws.proofs.FitMessage.{
+  fits-with-word,
+  fits-with-second,
+  fits-with-status,
+}
 use Rattle.terminal_laws.proofs.FitChanges.{fit-going-on, fit-opening, fit-faulted}
 
 -- ---- acts

@@ -1,6 +1,6 @@
 -- The remembered status has the terminal's own address at setup, `own-at-setup`, after every event,
--- `own-status-stays`, and so after every run, `own-status-run`; and the station stays, `same-station`.
--- Assumes nothing.
+-- `own-status-stays`, and so after every run, `own-status-run`; and the station stays,
+-- `same-station`. Assumes nothing.
 use mathlib.Core.Path.{_≡_, refl, _∙_}
 use mathlib.Core.Bool.{Bool, true, false, cond}
 use mathlib.Core.List.{List, [], _∷_}

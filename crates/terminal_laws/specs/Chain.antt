@@ -58,4 +58,5 @@ pub record OpensNext (message : OpenMessage) (between : List Event) (heard : Wor
 
 -- a message is open in the block that a table word names
 pub data OpenIn (tableWord : ℕ) : Message → Type 0 where
-  open-in : {message : OpenMessage} → message .block ≡ blockOf tableWord → OpenIn tableWord (Open message)
+  open-in : {message : OpenMessage} → message .block ≡ blockOf tableWord
+      → OpenIn tableWord (Open message)

@@ -1,4 +1,5 @@
--- The laws of `specs/AsCoded/Window.antt`, as the code takes one field of a window. Assumes nothing.
+-- The laws of `specs/AsCoded/Window.antt`, as the code takes one field of a window. Assumes
+-- nothing.
 use mathlib.Core.Path.{_≡_, refl, sym, ap, _∙_}
 use mathlib.Core.Bool.{Bool, true}
 use mathlib.Core.List.{List}

@@ -1,5 +1,5 @@
--- The lines of the terminal's state, an item a line; the items of an open message stand on one line.
--- Definitions only. Assumes nothing.
+-- The lines of the terminal's state, an item a line; the items of an open message stand on one
+-- line. Definitions only. Assumes nothing.
 use mathlib.Core.Bool.{Bool, cond}
 use mathlib.Core.List.{List, [], _∷_, _++_}
 use Prim.Native.Nat.{ℕ, zero, suc, _+_, _/_, _%_}

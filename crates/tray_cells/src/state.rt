@@ -175,7 +175,8 @@ fn put_block(out: &mut [u8], at: usize, block: u16) -> usize
 
 // The blocks that wait, oldest first.
 fn put_blocks(out: &mut [u8], at: usize, ring: Ring, places: &[u16; 256]) -> usize
-    ensures { λ next. ⌜ Fits (now (out .entry)) at (eachBlock (blocksFrom (now (places .entry)) (ring .start) (ring .count)))
+    ensures { λ next. ⌜ Fits (now (out .entry)) at
+        (eachBlock (blocksFrom (now (places .entry)) (ring .start) (ring .count)))
         (now (out .exit)) next ⌝ }
 {
     let start = ring.start as usize;

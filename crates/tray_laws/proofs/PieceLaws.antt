@@ -8,7 +8,15 @@ use lib.ListN.{drop}
 use Rattle.rules.proofs.Clash.{clash}
 use Rattle.tray.specs.Run.{Tray, trayAtStart, Whole, whole, withLine, wholeFrom, printed}
 use Rattle.tray.specs.AsCoded.Window.{Passed, windowRun}
-use Rattle.tray_laws.specs.AsCoded.Pieces.{linesPut, Streamed, begins, reads, ends, calls, Finished}
+use Rattle.tray_laws.specs.AsCoded.Pieces.{
+  linesPut,
+  Streamed,
+  begins,
+  reads,
+  ends,
+  calls,
+  Finished,
+}
 use Rattle.tray_laws.proofs.WindowLaws.{call-goes-on, call-is-over}
 
 -- what was printed of the pieces so far, and what is made of what is left, is what is made of the

@@ -1,5 +1,5 @@
--- A buffer that has `wholeRoom` for a recording is never full: one call runs the whole of it, prints
--- its text from the first byte on, and leaves every byte behind as it was. Assumes nothing.
+-- A buffer that has `wholeRoom` for a recording is never full: one call runs the whole of it,
+-- prints its text from the first byte on, and leaves every byte behind as it was. Assumes nothing.
 use mathlib.Core.Path.{_≡_, refl, sym, ap, _∙_}
 use mathlib.Core.Logic.{_≢_}
 use mathlib.Core.Bool.{true, false}

@@ -73,7 +73,8 @@ the-message-error-bit-differs claim =
     let differs : _≡_ {A = ℕ} 0x2800 0x2C00 = cc in
     omega arith
 
--- an answer, with the exception for the message error bit in a reply to "transmit status word" alone
+-- an answer, with the exception for the message error bit in a reply to "transmit status word"
+-- alone
 data AnswerButInStatus : Bool → Message → Answer → Answer → Type 0 where
   the-same : {before : Bool} {message : Message} {answer : Answer}
       → AnswerButInStatus before message answer answer

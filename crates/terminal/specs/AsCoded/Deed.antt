@@ -1,6 +1,6 @@
 -- What words do to the open message, one deed for the acts that do alike, and what silences reply:
--- the cut that the code makes. What it comes to is said by `WordStep` and `SilenceStep`. Definitions
--- only. Assumes nothing.
+-- the cut that the code makes. What it comes to is said by `WordStep` and `SilenceStep`.
+-- Definitions only. Assumes nothing.
 use mathlib.Core.Bool.{Bool, true, false, cond}
 use Rattle.bus.specs.declared.word.Word.{Word}
 use Rattle.message.specs.declared.asked.Asked.{Asked}

@@ -49,7 +49,12 @@ use Rattle.terminal.specs.Closing.{
 }
 use Rattle.terminal.specs.Event.{openedBy}
 use Rattle.terminal_laws.specs.OneBlock.{SameQueue, stillBefore}
-use Rattle.terminal_laws.proofs.OneBlock.Agreement.{Agree, both-service, both-linked, same-table-word}
+use Rattle.terminal_laws.proofs.OneBlock.Agreement.{
+  Agree,
+  both-service,
+  both-linked,
+  same-table-word,
+}
 use Rattle.terminal_laws.proofs.OneBlock.Queues.{same-closed}
 use Rattle.terminal_laws.proofs.OneBlock.Relation.{
   Asks,

@@ -35,7 +35,13 @@ use Rattle.terminal_laws.proofs.OneBlock.Relation.{
 use Rattle.terminal_laws.proofs.OneBlock.Changes.{related-opening}
 use Rattle.terminal_laws.proofs.OneBlock.Tail.{still-same, tail}
 use Rattle.terminal_laws.proofs.OneBlock.Acts.{unjoined-is-own, unjoined-supersedes}
-use Rattle.terminal_laws.proofs.OneBlock.Stretch.{Span, is-open, is-gone, onward, span-faulted}
+use Rattle.terminal_laws.proofs.OneBlock.Stretch.{
+  Span,
+  is-open,
+  is-gone,
+  onward,
+  span-faulted,
+}
 
 -- ---- one stretch
 

@@ -84,11 +84,15 @@ use Rattle.terminal_laws.proofs.OneBlock.Relation.{
   related-alike,
   StillRelated,
 }
-use Rattle.terminal_laws.proofs.OneBlock.Changes.{related-faulted, related-ended, related-opening}
+use Rattle.terminal_laws.proofs.OneBlock.Changes.{
+  related-faulted,
+  related-ended,
+  related-opening,
+}
 use Rattle.terminal_laws.proofs.OneBlock.Answers.{same-reply, sent-at-most}
 
--- ---- one event, on a card and on one with another remembered status, a queue that is the same, and
--- a memory that agrees
+-- ---- one event, on a card and on one with another remembered status, a queue that is the same,
+-- and a memory that agrees
 
 module _ {Spent : Block → Type 0} {before : Bool} (core : Core) (status : ℕ)
     (queue queue′ : Queue) (queues : SameQueue queue queue′)

@@ -1,5 +1,5 @@
--- `tray_cells::print_left` is safe: the end of the text lies in the buffer, whose length is said by a
--- law. Assumes nothing.
+-- `tray_cells::print_left` is safe: the end of the text lies in the buffer, whose length is said by
+-- a law. Assumes nothing.
 use mathlib.Core.Path.{sym}
 use Prim.Native.Nat.{ℕ}
 use lib.ListN.{length-replicate}

@@ -23,7 +23,13 @@ use Rattle.terminal_laws.specs.OneBlock.{
 }
 use Rattle.lines.specs.Lines.{statusLine}
 use Rattle.tray.specs.Run.{answerLine}
-use Rattle.tray_laws.specs.OneBlock.{SameLine, same, status-but-error, last-but-error, LaterLines}
+use Rattle.tray_laws.specs.OneBlock.{
+  SameLine,
+  same,
+  status-but-error,
+  last-but-error,
+  LaterLines,
+}
 
 -- the words sent, where the memories are as long as each other
 same-sent : (ram other : List ℕ) (block : Block) (count : ℕ) → length ram ≡ length other

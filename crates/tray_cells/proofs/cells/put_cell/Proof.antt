@@ -1,4 +1,5 @@
--- `tray_cells::cells::put_cell` meets its contract: nothing of a zero, else its parts in turn. Assumes nothing.
+-- `tray_cells::cells::put_cell` meets its contract: nothing of a zero, else its parts in turn.
+-- Assumes nothing.
 use borrow.Author.Needs.{needs}
 use Rattle.tray_cells.proofs.CellLaws.{zero-fits, cell-fits}
 use Rattle.tray_cells.proofs.cells.put_cell.Statement.{statement}

@@ -1,4 +1,5 @@
--- `tray_cells::state::put_message` meets its contract, of an open message and of none. Assumes nothing.
+-- `tray_cells::state::put_message` meets its contract, of an open message and of none. Assumes
+-- nothing.
 use borrow.Author.Needs.{needs}
 use Rattle.tray_cells.proofs.StateLaws.{message-idle, message-open}
 use Rattle.tray_cells.proofs.state.put_message.Statement.{statement}

@@ -1,4 +1,5 @@
--- `tray_cells::state::put_remembered` meets its contract: its parts are put in turn. Assumes nothing.
+-- `tray_cells::state::put_remembered` meets its contract: its parts are put in turn. Assumes
+-- nothing.
 use borrow.Author.Needs.{needs}
 use Rattle.tray_cells.proofs.StateLaws.{remembered-fits}
 use Rattle.tray_cells.proofs.state.put_remembered.Statement.{statement}

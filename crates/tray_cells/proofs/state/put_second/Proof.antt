@@ -1,4 +1,5 @@
--- `tray_cells::state::put_second` meets its contract, with a second command and without. Assumes nothing.
+-- `tray_cells::state::put_second` meets its contract, with a second command and without. Assumes
+-- nothing.
 use borrow.Author.Needs.{needs}
 use Rattle.tray_cells.proofs.StateLaws.{no-second, second-command}
 use Rattle.tray_cells.proofs.state.put_second.Statement.{statement}

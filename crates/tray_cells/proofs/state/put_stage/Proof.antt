@@ -1,6 +1,11 @@
 -- `tray_cells::state::put_stage` meets its contract: a law for each stage. Assumes nothing.
 use borrow.Author.Needs.{needs}
-use Rattle.tray_cells.proofs.StateLaws.{stage-data, stage-second, stage-awaiting, stage-skipping}
+use Rattle.tray_cells.proofs.StateLaws.{
+  stage-data,
+  stage-second,
+  stage-awaiting,
+  stage-skipping,
+}
 use Rattle.tray_cells.proofs.state.put_stage.Statement.{statement}
 use Rattle.tray_cells.proofs.state.put_stage.Tie as tie
 

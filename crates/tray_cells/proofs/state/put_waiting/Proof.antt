@@ -1,4 +1,5 @@
--- `tray_cells::state::put_waiting` meets its contract, with blocks that wait and without. Assumes nothing.
+-- `tray_cells::state::put_waiting` meets its contract, with blocks that wait and without. Assumes
+-- nothing.
 use borrow.Author.Needs.{needs}
 use Rattle.tray_cells.proofs.StateLaws.{waiting-none, waiting-some}
 use Rattle.tray_cells.proofs.state.put_waiting.Statement.{statement}

@@ -1,4 +1,5 @@
--- `tray_cells::text::put_decimal` meets its contract: the digits are those of the number. Assumes nothing.
+-- `tray_cells::text::put_decimal` meets its contract: the digits are those of the number. Assumes
+-- nothing.
 use borrow.Author.Needs.{needs}
 use Rattle.tray_cells.proofs.TextLaws.{digits-end, decimal-fits}
 use Rattle.tray_cells.proofs.text.put_decimal.Statement.{statement}

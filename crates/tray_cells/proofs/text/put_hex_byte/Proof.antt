@@ -1,4 +1,5 @@
--- `tray_cells::text::put_hex_byte` meets its contract: the digits are those of the byte. Assumes nothing.
+-- `tray_cells::text::put_hex_byte` meets its contract: the digits are those of the byte. Assumes
+-- nothing.
 use borrow.Author.Needs.{needs}
 use Rattle.tray_cells.proofs.TextLaws.{hex-byte-fits}
 use Rattle.tray_cells.proofs.text.put_hex_byte.Statement.{statement}

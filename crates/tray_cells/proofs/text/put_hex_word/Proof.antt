@@ -1,4 +1,5 @@
--- `tray_cells::text::put_hex_word` meets its contract: the digits are those of the word. Assumes nothing.
+-- `tray_cells::text::put_hex_word` meets its contract: the digits are those of the word. Assumes
+-- nothing.
 use borrow.Author.Needs.{needs}
 use Rattle.tray_cells.proofs.TextLaws.{hex-word-fits}
 use Rattle.tray_cells.proofs.text.put_hex_word.Statement.{statement}
