@@ -1,6 +1,6 @@
--- The laws of `specs/Sent.antt`: what the number 0 tells, and the part on either way.
--- Assumes nothing.
-use mathlib.Core.Path.{_≡_, sym, _∙_}
+-- The laws of `specs/Sent.antt`: what the number 0 tells, the part on either way, and the part of
+-- two memories. Assumes nothing.
+use mathlib.Core.Path.{_≡_, refl, sym, _∙_}
 use mathlib.Core.Bool.{cond, _&&_}
 use mathlib.Core.List.{List, []}
 use Prim.Native.Nat.{ℕ, _+_, _-_, _≤_, _<_}
@@ -86,3 +86,12 @@ module _ (blocks : ℕ) (ram : List ℕ) (block : Block) (count number : ℕ)
         )
 
 pub ruleset parts = (part-refused, part-ends, part-shown)
+
+-- memories that are as long as each other and have the same words there show the same part
+pub same-part : (blocks : ℕ) (ram other : List ℕ) (block : Block) (count : ℕ)
+    → length ram ≡ length other
+    → take count (drop (wordAddress block (theCell 0)) ram)
+    ≡ take count (drop (wordAddress block (theCell 0)) other)
+    → sentPart blocks ram block count ≡ sentPart blocks other block count
+unfolding sentPart
+same-part blocks ram other block count long words = rw (long, words) refl

@@ -24,15 +24,15 @@ small words events =
 abbrev pub fourBlocks : List Event → Card
 fourBlocks events = small 256 (put 1 3 0x4002 ∷ put 2 63 0x4003 ∷ events)
 
--- the message of the receive command in a block, by whether the host has set the table block since,
--- and the words taken
-abbrev pub receivedIn : ℕ → Bool → ℕ → OpenMessage
-receivedIn block moved taken =
+-- the message of the receive command by a table block, in a block, by whether the host has set the
+-- table block since, and the words taken
+abbrev pub receivedBy : ℕ → ℕ → Bool → ℕ → OpenMessage
+receivedBy table block moved taken =
     record {
       command = 0x2862;
       line = false;
       block = theBlock block;
-      table = theBlock 1;
+      table = theBlock table;
       moved = moved;
       busy = false;
       queued = true;
@@ -41,6 +41,10 @@ receivedIn block moved taken =
       second = Absent;
       stage = Data;
     }
+
+-- by table block 1
+abbrev pub receivedIn : ℕ → Bool → ℕ → OpenMessage
+receivedIn = receivedBy 1
 
 -- in block 2, which the run takes
 abbrev pub received : Bool → ℕ → OpenMessage

@@ -29,7 +29,7 @@ use Rattle.terminal_laws.proofs.RestLaws.{
   opened-block-in-memory,
 }
 use Rattle.runs.proofs.Telling.{runs, put, receive, word1, atSetup, cardAfter}
-use Rattle.runs.proofs.FourBlocks.{small, receivedIn, received}
+use Rattle.runs.proofs.FourBlocks.{small, receivedBy, receivedIn, received}
 
 -- ---- at rest
 
@@ -155,11 +155,10 @@ TableInside Asked =
     (old : Card) (message : OpenMessage) → Asked old message
     → tableAddress message < length (old .ram)
 
--- station 5, table block 1, a memory of so many zeros; a message is open in a block
-unfoldable opened : ℕ → ℕ → Card
-opened words block =
-    card (withMessage (Open (receivedIn block false 0)) (coreAtSetup 5 (theBlock 1) 0)) emptyQueue
-    (replicate words 0)
+-- station 5, table block 1, a memory of so many zeros; a message is open
+unfoldable opened : ℕ → OpenMessage → Card
+opened words message =
+    card (withMessage (Open message) (coreAtSetup 5 (theBlock 1) 0)) emptyQueue (replicate words 0)
 
 -- whatever the length of the memory
 record OverAny (old : Card) (message : OpenMessage) : Type 0 where
@@ -170,14 +169,16 @@ two-blocks-would-lack-block-2 : Inside OverAny → ⊥
 unfolding runs opened
 two-blocks-would-lack-block-2 claim =
     let inside : 192 ≤ 128 =
-    claim (opened 128 2) (received false 0) (record { fit = refl; is-open = refl }) in
+    claim (opened 128 (received false 0)) (received false 0)
+    (record { fit = refl; is-open = refl }) in
     omega arith
 
 one-block-would-lack-the-table : TableInside OverAny → ⊥
 unfolding runs opened
 one-block-would-lack-the-table claim =
     let inside : 67 < 64 =
-    claim (opened 64 2) (received false 0) (record { fit = refl; is-open = refl }) in
+    claim (opened 64 (received false 0)) (received false 0)
+    (record { fit = refl; is-open = refl }) in
     omega arith
 
 -- fit or not
@@ -189,7 +190,15 @@ block-256-would-lie-behind-memory : Inside InAny → ⊥
 unfolding runs opened
 block-256-would-lie-behind-memory claim =
     let inside : 16448 ≤ 16384 =
-    claim (opened 16384 256) (receivedIn 256 false 0)
+    claim (opened 16384 (receivedIn 256 false 0)) (receivedIn 256 false 0)
+    (record { whole-memory = refl; is-open = refl }) in
+    omega arith
+
+table-block-256-would-lie-behind-memory : TableInside InAny → ⊥
+unfolding runs opened
+table-block-256-would-lie-behind-memory claim =
+    let inside : 16387 < 16384 =
+    claim (opened 16384 (receivedBy 256 2 false 0)) (receivedBy 256 2 false 0)
     (record { whole-memory = refl; is-open = refl }) in
     omega arith
 
@@ -202,6 +211,14 @@ unfolding runs
 a-message-that-is-not-open-may-lie-anywhere claim =
     let inside : 16448 ≤ 16384 =
     claim atSetup (receivedIn 256 false 0)
+    (record { whole-and-fit = after-setup .whole-and-fit }) in
+    omega arith
+
+its-table-cell-may-too : TableInside OfAny → ⊥
+unfolding runs
+its-table-cell-may-too claim =
+    let inside : 16387 < 16384 =
+    claim atSetup (receivedBy 256 2 false 0)
     (record { whole-and-fit = after-setup .whole-and-fit }) in
     omega arith
 

@@ -10,6 +10,7 @@ use Rattle.bus.specs.declared.status.Status.{Status}
 use Rattle.bus.specs.Command.{addressOf}
 use Rattle.bus.specs.Status.{statusWord, caughtStatus}
 use Rattle.bus.proofs.StatusLaws.{status-address}
+use Rattle.card.specs.declared.place.Block.{Block}
 use Rattle.card.specs.Memory.{theBlock}
 use Rattle.queue.specs.Queue.{emptyQueue}
 use Rattle.terminal.specs.State.{Card, card, withStatus, coreAtSetup}
@@ -42,6 +43,14 @@ unfolding runs
 the-run-keeps-the-address =
     own-status-run atSetup (omega arith) (own-at-setup 5 (theBlock 1) 0 (omega arith))
     (receive ∷ word1 ∷ quiet ∷ commandA 0x2C02 0x70 ∷ [])
+
+-- setup gives station 37 the status of station 5
+station-37-has-none-at-setup :
+    ((station : ℕ) (table : Block) (flags : ℕ) → OwnStatus (coreAtSetup station table flags)) → ⊥
+unfolding runs
+station-37-has-none-at-setup claim =
+    let differs : _≡_ {A = ℕ} 5 37 = claim 37 (theBlock 1) 0 in
+    omega arith
 
 -- by what is asked of the card
 abbrev Keeps : (Card → Type 0) → Type 0

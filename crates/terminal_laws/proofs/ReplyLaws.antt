@@ -15,6 +15,7 @@ use Rattle.card.specs.declared.place.Cell.{Cell}
 use Rattle.card.specs.Memory.{cardBlocks, wordAddress, cellAt}
 use Rattle.card.specs.Sent.{sentPart}
 use Rattle.card.proofs.CellLaws.{part-of-same-cells}
+use Rattle.card.proofs.SentLaws.{same-part}
 use Rattle.message.specs.declared.judge.SilenceAct.{SilenceAct}
 use Rattle.message.specs.declared.judge.SilenceAct.the-variants.{Ignore, AwaitStatus, Fault, End}
 use Rattle.message.specs.declared.state.OpenMessage.{OpenMessage}
@@ -42,9 +43,9 @@ use Rattle.terminal_laws.proofs.StepFrame.{silence-step, step-writes-on
 same-sent : (ram other : List ℕ) (block : Block) (count : ℕ) → length ram ≡ length other
     → ((cell : Cell) → cell .0 < count → cellAt ram block cell ≡ cellAt other block cell)
     → sentPart cardBlocks ram block count ≡ sentPart cardBlocks other block count
-unfolding sentPart
 same-sent ram other block count long cells =
-    rw (long, part-of-same-cells ram other block count long cells) refl
+    same-part cardBlocks ram other block count long
+    (part-of-same-cells ram other block count long cells)
 
 -- answers, with what holds where one sends words
 data Sends (cell : Cell) : Answer → Type 0 where

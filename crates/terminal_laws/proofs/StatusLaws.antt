@@ -1,6 +1,5 @@
 -- The remembered status has the terminal's own address at setup, `own-at-setup`, after every event,
--- `own-status-stays`, and so after every run, `own-status-run`; and the station stays,
--- `same-station`. Assumes nothing.
+-- `own-status-stays`, and so after every run, `own-status-run`. Assumes nothing.
 use mathlib.Core.Path.{_≡_, refl, _∙_}
 use mathlib.Core.Bool.{Bool, true, false, cond}
 use mathlib.Core.List.{List, [], _∷_}
@@ -198,7 +197,3 @@ module _ (old : Card) (five-bits : old .core .station < 32) (own : OwnStatus (ol
   pub own-status-run : (events : List Event) → OwnStatus (run events old .core)
   own-status-run events =
       run-stays (old .core .station) five-bits events old (record { same = refl; own = own }) .own
-
-  pub same-station : (events : List Event) → run events old .core .station ≡ old .core .station
-  same-station events =
-      run-stays (old .core .station) five-bits events old (record { same = refl; own = own }) .same

@@ -6,7 +6,7 @@ use Prim.Native.Nat.{ℕ}
 use lib.ListN.{length, take, drop}
 use Rattle.card.specs.declared.place.Block.{Block}
 use Rattle.card.specs.Memory.{cardBlocks, theCell, wordAddress}
-use Rattle.card.specs.Sent.{sentPart}
+use Rattle.card.proofs.SentLaws.{same-part}
 use Rattle.message.specs.declared.state.Message.{Message}
 use Rattle.terminal.specs.declared.state.Reply.the-variants.{Silent, Status, Words, Last}
 use Rattle.terminal.specs.declared.state.Answer.{Answer}
@@ -31,14 +31,6 @@ use Rattle.tray_laws.specs.OneBlock.{
   LaterLines,
 }
 
--- the words sent, where the memories are as long as each other
-same-sent : (ram other : List ℕ) (block : Block) (count : ℕ) → length ram ≡ length other
-    → take count (drop (wordAddress block (theCell 0)) ram)
-    ≡ take count (drop (wordAddress block (theCell 0)) other)
-    → sentPart cardBlocks ram block count ≡ sentPart cardBlocks other block count
-unfolding sentPart
-same-sent ram other block count long part = rw (long, part) refl
-
 -- the same answer, of two memories
 same-answer-line : (answer : Answer) (ram other : List ℕ) → length ram ≡ length other
     → ((status : ℕ) (block : Block) (count : ℕ) → answer ≡ Replied (Words status block count)
@@ -49,7 +41,7 @@ same-answer-line (Replied Silent) ram other long words = refl
 same-answer-line (Replied (Status status)) ram other long words = refl
 same-answer-line (Replied (Words status block count)) ram other long words =
     ap (λ (sent : List ℕ). statusLine status sent)
-    (same-sent ram other block count long (words status block count refl))
+    (same-part cardBlocks ram other block count long (words status block count refl))
 same-answer-line (Replied (Last status last)) ram other long words = refl
 same-answer-line (QueueWord oldest) ram other long words = refl
 
