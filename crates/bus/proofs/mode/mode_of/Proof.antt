@@ -1,20 +1,70 @@
--- `bus::mode::mode_of` meets its contract, by the cases of its tests. Assumes nothing.
-use Rattle.rules.proofs.Cases.{cases}
-use Rattle.bus.proofs.ModeLaws.{mode-is}
+-- `bus::mode::mode_of` meets its contract, arm by arm. Assumes nothing.
+use mathlib.Core.Path.{_∙_}
+use Prim.Native.Nat.{_≤_}
+use native.Mathlib.Omega.{arith}
+use Rattle.bus.specs.Mode.{modeTable, modeOf}
+use Rattle.bus.proofs.ModeLaws.{row-at, _or_, past-all, past-the-table}
 use Rattle.bus.proofs.mode.mode_of.Statement.{statement}
 use Rattle.bus.proofs.mode.mode_of.Tie as tie
 
+-- codes 0 to 15, and none that is left
 returns : tie.Need-returns
-returns c = search (cases, mode-is) depth 9
+unfolding modeOf modeTable
+returns c =
+    let code = c .before .before .before .args .code in
+    ((λ way. row-at (way .0 .keys1) (way .2 ∙ way .1 .ensures))
+    or (λ way. row-at (way .0 .keys2) (way .2 ∙ way .1 .ensures))
+    or (λ way. row-at (way .0 .keys3) (way .2 ∙ way .1 .ensures))
+    or (λ way. row-at (way .0 .keys4) (way .2 ∙ way .1 .ensures))
+    or (λ way. row-at (way .0 .keys5) (way .2 ∙ way .1 .ensures))
+    or (λ way. row-at (way .0 .keys6) (way .2 ∙ way .1 .ensures))
+    or (λ way. row-at (way .0 .keys7) (way .2 ∙ way .1 .ensures))
+    or (λ way. row-at (way .0 .keys8) (way .2 ∙ way .1 .ensures))
+    or (λ way. row-at (way .0 .keys9) (way .2 ∙ way .1 .ensures))
+    or (λ way. row-at (way .0 .keys10) (way .1))
+    or (λ way. row-at (way .0 .keys11) (way .1))
+    or (λ way. row-at (way .0 .keys12) (way .1))
+    or (λ way. row-at (way .0 .keys13) (way .1))
+    or (λ way. row-at (way .0 .keys14) (way .1))
+    or (λ way. row-at (way .0 .keys15) (way .1))
+    or (λ way. row-at (way .0 .keys16) (way .1))
+    or (λ way.
+    let past : 16 ≤ code = past-all code 0 16 (omega arith) (way .0 .rest) in
+    absurd (omega (arith, c .if1 .taken))))
+    (c .before .before .match .came)
 
+-- codes 16 to 31, and those above
 returns-2 : tie.Need-returns-2
-returns-2 c = search (cases, mode-is) depth 9
+unfolding modeOf modeTable
+returns-2 c =
+    let code = c .before .before .before .args .code in
+    ((λ way. row-at (way .0 .keys1) (way .2 ∙ way .1 .ensures))
+    or (λ way. row-at (way .0 .keys2) (way .2 ∙ way .1 .ensures))
+    or (λ way. row-at (way .0 .keys3) (way .2 ∙ way .1 .ensures))
+    or (λ way. row-at (way .0 .keys4) (way .2 ∙ way .1 .ensures))
+    or (λ way. row-at (way .0 .keys5) (way .2 ∙ way .1 .ensures))
+    or (λ way. row-at (way .0 .keys6) (way .2 ∙ way .1 .ensures))
+    or (λ way. row-at (way .0 .keys7) (way .1))
+    or (λ way. row-at (way .0 .keys8) (way .1))
+    or (λ way. row-at (way .0 .keys9) (way .1))
+    or (λ way. row-at (way .0 .keys10) (way .1))
+    or (λ way. row-at (way .0 .keys11) (way .1))
+    or (λ way. row-at (way .0 .keys12) (way .1))
+    or (λ way. row-at (way .0 .keys13) (way .1))
+    or (λ way. row-at (way .0 .keys14) (way .1))
+    or (λ way. row-at (way .0 .keys15) (way .1))
+    or (λ way. row-at (way .0 .keys16) (way .1))
+    or (λ way.
+    let past : 32 ≤ code = past-all code 16 16 (omega (arith, c .if1 .left)) (way .0 .rest) in
+    way .1 ∙ past-the-table code (omega arith)))
+    (c .before .match2 .came)
 
-returns-3 : tie.Need-returns-3
-returns-3 c = search (cases, mode-is) depth 9
-
-returns-4 : tie.Need-returns-4
-returns-4 c = search (cases, mode-is) depth 9
-
+-- `row` asks nothing of its columns
 pub mode-of-spec : {M : Type 1} → statement M
-mode-of-spec = tie.close (tie.spec returns returns-2 returns-3 returns-4)
+mode-of-spec =
+    tie.close (tie.spec
+    (λ c κs. tt) (λ c κs. tt) (λ c κs. tt) (λ c κs. tt) (λ c κs. tt)
+    (λ c κs. tt) (λ c κs. tt) (λ c κs. tt) (λ c κs. tt) (λ c κs. tt)
+    (λ c κs. tt) (λ c κs. tt) (λ c κs. tt) (λ c κs. tt) (λ c κs. tt)
+    returns
+    returns-2)
