@@ -1,11 +1,13 @@
 /*
- * recording BYTES: writes a recording of about that many bytes, always the same, as a busy rack's:
- * receives, transmits, mode commands, transfers between stations, broken messages, queue reads and
- * the host's writes. It ends after a whole message, so a run of it prints END.
+ * recording BYTES [modes]: writes a recording of about that many bytes, always the same, as a busy
+ * rack's: receives, transmits, mode commands, transfers between stations, broken messages, queue
+ * reads and the host's writes; or of mode commands alone. It ends after a whole message, so a run
+ * of it prints END.
  */
 #include <stdint.h>
 #include <stdio.h>
 #include <stdlib.h>
+#include <string.h>
 
 enum { STATION = 5, OTHER = 9, TABLE = 1, COMMAND = 6, DATA = 12, UNSOUND = 8 };
 
@@ -175,14 +177,20 @@ static void message(void)
 
 int main(int argument_count, char **arguments)
 {
-    const uint64_t wanted = argument_count == 2 ? strtoull(arguments[1], NULL, 10) : 0;
+    const int modes = argument_count == 3 && strcmp(arguments[2], "modes") == 0;
+    const int known = argument_count == 2 || modes;
+    const uint64_t wanted = known ? strtoull(arguments[1], NULL, 10) : 0;
 
     if (wanted == 0) {
-        fputs("usage: recording BYTES\n", stderr);
+        fputs("usage: recording BYTES [modes]\n", stderr);
         return 2;
     }
     prepare();
-    while (written < wanted)
-        message();
+    while (written < wanted) {
+        if (modes)
+            mode_command(below(8) == 0);
+        else
+            message();
+    }
     return fflush(stdout) == 0 ? 0 : 1;
 }
