@@ -70,11 +70,12 @@ def columns(name, direction="", word="", broadcast=""):
 
 def tables_of_bus():
     """The table of the code and that of the definition, code by code as they stand there."""
-    coded = re.findall(r"^ +(\d+) => (?:row\((\w+), ModeWord::(\w+), (\w+)\), // (.*)|RESERVED,)$",
-                       CODE.read_text(), re.M)
+    coded = re.findall(r"^ +(\d+) => (?:row\((\w+), (\w+), (\w+)\)|RESERVED), "
+                       r"// ([01]{5})(?: (.*))?$", CODE.read_text(), re.M)
     stated = re.findall(r"^ +(?:∷ )?(?:row (\w+) (\w+) (\w+)|reserved)  -- +(\d+)(?:  (.*))?$",
                         DEFINITION.read_text(), re.M)
-    yield CODE, [(int(code), columns(name, *row)) for code, *row, name in coded]
+    yield CODE, [(int(code), columns(name, *row)) for code, *row, bits, name in coded
+                 if int(bits, 2) == int(code)]
     yield DEFINITION, [(int(code), columns(name, *row)) for *row, code, name in stated]
 
 
