@@ -7,6 +7,7 @@ line and the terminal flag inhibited. Leaves 1 on a difference."""
 import collections
 import itertools
 import re
+import struct
 import sys
 
 import programs
@@ -19,7 +20,8 @@ CELLS = programs.compiled("tray_cells")
 STATION, ALL = 5, 31
 COMMAND, DATA = 6, 12             # marks: a sound command, a sound joined data word, both on line A
 BEFORE, WORD = 0x2C01, 0xD00D     # the command before, and the data word that is taken
-TABLE = {31: 2, 32: 3, 63: 4}     # the blocks of the mode commands' table cells, each its own next
+TIME = 7                          # the stamp of the command that is tried; the others have 0
+TABLE = {"31": 2, "32": 3, "63": 4}    # the block of each table cell, which is its own next
 HELD = {3: 0xBEE3, 4: 0xBEE4}     # what cell 0 holds of the blocks that send
 
 # what the guide says that the card does. Whether line B is shut and the terminal flag inhibited
@@ -31,21 +33,20 @@ SWITCHES = {
     "replies, then allows the terminal flag": lambda shut, inhibit: (shut, 0),
     "replies, then opens both lines and allows the terminal flag": lambda shut, inhibit: (0, 0),
 }
-# .. the word that it sends, the address where it stores one, whether it keeps the status
+# .. the word that it sends, by its block; whether it keeps the status
 SENDS = {
-    "sends cell 0 of the block of table cell 32": HELD[TABLE[32]],
-    "sends cell 0 of the block of table cell 63": HELD[TABLE[63]],
-    "sends the command before, with its status": BEFORE,
+    "sends cell 0 of its block": HELD.get,
+    "sends the command before, with its status": lambda block: BEFORE,
 }
-STORES = {"stores it in cell 0 of the block of table cell 31": 64 * TABLE[31]}
+STORES = "stores it in cell 0 of its block"
 KEEPS = {
     "replies with the status of the message before",
     "sends the command before, with its status",
 }
 
-Row = collections.namedtuple("Row", "name command word broadcast does")
-RESERVED = Row("reserved", "", "", "", "replies message error")
-KNOWN = {"replies", RESERVED.does, *SWITCHES, *SENDS, *STORES, *KEEPS}
+Row = collections.namedtuple("Row", "name command word broadcast cell does")
+RESERVED = Row("reserved", "", "", "", "", "replies message error")
+KNOWN = {"replies", RESERVED.does, STORES, *SWITCHES, *SENDS, *KEEPS}
 
 
 # ---- the tables
@@ -97,42 +98,46 @@ def differences(rows):
 
 # ---- the program
 
-def message(command, *words):
+def message(command, *words, time=0):
     """A command with data words, and the silence behind it."""
-    fields = [bytes([2, 0, 7, marks]) + word.to_bytes(2, "big") + bytes(4)
-              for marks, word in ((COMMAND, command), *((DATA, word) for word in words))]
-    return b"".join(fields) + bytes([3, 0, 5, 0, 0, 0, 0, 0])
+    fields = [struct.pack(">BHBHI", 2, 7, COMMAND, command, time)]
+    fields += [struct.pack(">BHBHI", 2, 7, DATA, word, time) for word in words]
+    return b"".join(fields) + struct.pack(">BHBI", 3, 5, 0, time)
 
 
 def host_write(address, word):
-    return bytes([5, 0, 4]) + address.to_bytes(2, "big") + word.to_bytes(2, "big")
+    return struct.pack(">BHHH", 5, 4, address, word)
 
 
 def recording(command, words, broken, shut):
     """The command behind another; then code 2 asks for the status."""
     fields = bytes([1, 0, 3, STATION, 1, 1])
     for cell, block in TABLE.items():
-        fields += host_write(64 + cell, block) + host_write(64 * block + 63, block)
+        fields += host_write(64 + int(cell), block) + host_write(64 * block + 63, block)
     fields += b"".join(host_write(64 * block, word) for block, word in HELD.items())
     if shut:
         fields += message(0x2C04) + message(0x2C06)
-    return fields + message(BEFORE, *[WORD] * broken) + message(command, *words) + message(0x2C02)
+    fields += message(BEFORE, *[WORD] * broken)
+    return fields + message(command, *words, time=TIME) + message(0x2C02)
 
 
 def wanted(row, transmit, station, words, broken, shut):
     """What the guide's row has for it: the lines, whether line B is shut and the terminal flag
-    inhibited, and the cells that hold the data word."""
+    inhibited, the cells with the data word and the closing time."""
     legal = (row != RESERVED and (direction(row) == "transmit") == transmit
              and (station == STATION or row.broadcast == "yes"))
     sound = legal and len(words) == (row.word == "taken")
+    block = TABLE.get(row.cell) if legal else None
     error = broken if sound and row.does in KEEPS else not sound
     status = f"S {0x2800 + 0x400 * error + 0x10 * (station == ALL):04X}"
     lines = ["S 2800"] * (2 * shut + (not broken))
     if station == STATION and (sound or not legal):
-        lines.append(status + (f" {SENDS[row.does]:04X}" if sound and row.word == "sent" else ""))
-    switch = SWITCHES.get(row.does, lambda *marks: marks) if sound else lambda *marks: marks
-    cells = [f"{STORES[row.does]:04X} {WORD:04X}"] if sound and row.word == "taken" else []
-    return lines + [status], switch(shut, shut), cells
+        sent = f" {SENDS[row.does](block):04X}" if sound and row.word == "sent" else ""
+        lines.append(status + sent)
+    marks = SWITCHES[row.does](shut, shut) if sound and row.does in SWITCHES else (shut, shut)
+    cells = [f"{64 * block:04X} {WORD:04X}"] if sound and row.does == STORES else []
+    cells += [f"{64 * block + 60:04X} {TIME:04X}"] if block else []
+    return lines + [status], marks, cells
 
 
 def found(fields):
@@ -141,7 +146,7 @@ def found(fields):
     state = dict(line.rsplit(" ", 1) for line in printed)
     return ([line for line in printed if line.startswith("S ")],
             (int(state["shut B"]), int(state["inhibit"])),
-            [line for line in printed if line.endswith(f" {WORD:04X}")])
+            [line for line in printed if line.endswith((f" {WORD:04X}", f" {TIME:04X}"))])
 
 
 def main():
