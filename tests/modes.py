@@ -113,7 +113,8 @@ def recording(command, words, broken, shut):
     """The command behind another; then code 2 asks for the status."""
     fields = bytes([1, 0, 3, STATION, 1, 1])
     for cell, block in TABLE.items():
-        fields += host_write(64 + int(cell), block) + host_write(64 * block + 63, block)
+        fields += host_write(64 + int(cell), 0x4000 | block)
+        fields += host_write(64 * block + 63, 0x4000 | block)
     fields += b"".join(host_write(64 * block, word) for block, word in HELD.items())
     if shut:
         fields += message(0x2C04) + message(0x2C06)
@@ -123,7 +124,8 @@ def recording(command, words, broken, shut):
 
 def wanted(row, transmit, station, words, broken, shut):
     """What the guide's row has for it: the lines, whether line B is shut and the terminal flag
-    inhibited, the cells with the data word and the closing time."""
+    inhibited, the blocks that wait in the queue, the cells with the data word and the closing
+    time."""
     legal = (row != RESERVED and (direction(row) == "transmit") == transmit
              and (station == STATION or row.broadcast == "yes"))
     sound = legal and len(words) == (row.word == "taken")
@@ -137,7 +139,8 @@ def wanted(row, transmit, station, words, broken, shut):
     marks = SWITCHES[row.does](shut, shut) if sound and row.does in SWITCHES else (shut, shut)
     cells = [f"{64 * block:04X} {WORD:04X}"] if sound and row.does == STORES else []
     cells += [f"{64 * block + 60:04X} {TIME:04X}"] if block else []
-    return lines + [status], marks, cells
+    waiting = f"waiting {TABLE['31']}" + (f" {block}" if block else "")
+    return lines + [status], marks, [waiting, *cells]
 
 
 def found(fields):
@@ -146,7 +149,8 @@ def found(fields):
     state = dict(line.rsplit(" ", 1) for line in printed)
     return ([line for line in printed if line.startswith("S ")],
             (int(state["shut B"]), int(state["inhibit"])),
-            [line for line in printed if line.endswith((f" {WORD:04X}", f" {TIME:04X}"))])
+            [line for line in printed if line.startswith("waiting ")
+             or line.endswith((f" {WORD:04X}", f" {TIME:04X}"))])
 
 
 def main():

@@ -1,8 +1,8 @@
--- The laws of `specs/Mode.antt` that the code's own table asks for: what an arm tells, and what is
--- left for the last arm. Assumes nothing.
+-- The laws of `specs/Mode.antt` that the code's own table asks for: what an arm tells, and what the
+-- last one does. Assumes nothing.
 use mathlib.Core.Path.{_≡_, sym}
 use mathlib.Core.Logic.{_⊎_, ⊎-elim}
-use Prim.Native.Nat.{ℕ, zero, suc, _+_, _≤_}
+use Prim.Native.Nat.{ℕ, _≤_}
 use native.Mathlib.Omega.{arith}
 use lib.ListN.{List·getD-eq-default}
 use Rattle.bus.specs.declared.mode.Mode.{Mode}
@@ -18,18 +18,7 @@ infixr 1 _or_
 pub _or_ : {A B C : Type 0} → (A → C) → (B → C) → A ⊎ B → C
 _or_ = ⊎-elim
 
--- the last arm: a code that is none of `count` numbers, which follow one another from `start`
-abbrev pub NoneOf : (code start count : ℕ) → Type 0
-NoneOf code start zero = Unit {0}
-NoneOf code start (suc count) = NoneOf code start count × (code ≡ start + count → ⊥)
-
-pub past-all : (code start count : ℕ)
-    → start ≤ code → NoneOf code start count → start + count ≤ code
-past-all code start zero least none = omega (arith, least)
-past-all code start (suc count) least (none, other) =
-    omega (arith, past-all code start count least none, other)
-
--- past the table's end a code is reserved
+-- the last arm: past the table's end a code is reserved
 pub past-the-table : (code : ℕ) → 22 ≤ code → reserved ≡ modeOf code
 unfolding modeOf modeTable
 past-the-table code past = sym (List·getD-eq-default modeTable reserved {n = code} (omega arith))

@@ -2,8 +2,9 @@
 use mathlib.Core.Path.{_∙_}
 use Prim.Native.Nat.{_≤_}
 use native.Mathlib.Omega.{arith}
+use Rattle.rules.proofs.LastArm.{none-below, none-from}
 use Rattle.bus.specs.Mode.{modeTable, modeOf}
-use Rattle.bus.proofs.ModeLaws.{row-at, _or_, past-all, past-the-table}
+use Rattle.bus.proofs.ModeLaws.{row-at, _or_, past-the-table}
 use Rattle.bus.proofs.mode.mode_of.Statement.{statement}
 use Rattle.bus.proofs.mode.mode_of.Tie as tie
 
@@ -29,7 +30,7 @@ returns c =
     or (λ way. row-at (way .0 .keys15) (way .1))
     or (λ way. row-at (way .0 .keys16) (way .1))
     or (λ way.
-    let past : 16 ≤ code = past-all code 0 16 (omega arith) (way .0 .rest) in
+    let past : 16 ≤ code = none-below code 16 (way .0 .rest) in
     absurd (omega (arith, c .if1 .taken))))
     (c .before .before .match .came)
 
@@ -55,7 +56,7 @@ returns-2 c =
     or (λ way. row-at (way .0 .keys15) (way .1))
     or (λ way. row-at (way .0 .keys16) (way .1))
     or (λ way.
-    let past : 32 ≤ code = past-all code 16 16 (omega (arith, c .if1 .left)) (way .0 .rest) in
+    let past : 32 ≤ code = none-from 16 code 16 (omega (arith, c .if1 .left)) (way .0 .rest) in
     way .1 ∙ past-the-table code (omega arith)))
     (c .before .match2 .came)
 
