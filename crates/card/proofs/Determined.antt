@@ -35,10 +35,14 @@ use Rattle.card.proofs.host.is_write.Kinds as is-write-kinds
 use Rattle.card.proofs.host.is_write.Reads as is-write-reads
 use Rattle.card.proofs.host.write.Kinds as host-write-kinds
 use Rattle.card.proofs.host.write.Reads as host-write-reads
-use Rattle.card.proofs.sent.refusal.Kinds as refusal-kinds
-use Rattle.card.proofs.sent.refusal.Reads as refusal-reads
-use Rattle.card.proofs.sent.part.Kinds as part-kinds
-use Rattle.card.proofs.sent.part.Reads as part-reads
+use Rattle.card.proofs.part.refusal.Kinds as part-refusal-kinds
+use Rattle.card.proofs.part.refusal.Reads as part-refusal-reads
+use Rattle.card.proofs.part.shown.Kinds as shown-kinds
+use Rattle.card.proofs.part.shown.Reads as shown-reads
+use Rattle.card.proofs.sent.refusal.Kinds as sent-refusal-kinds
+use Rattle.card.proofs.sent.refusal.Reads as sent-refusal-reads
+use Rattle.card.proofs.sent.part.Kinds as sent-part-kinds
+use Rattle.card.proofs.sent.part.Reads as sent-part-reads
 
 -- ---- numbers and words
 
@@ -106,10 +110,20 @@ pub host-write :
     (λ κs result exit. wrote result (now (exit .0)))
 host-write κs arguments result result′ exit exit′ = same
 
-pub refusal : Determined 1 refusal-kinds.ps refusal-kinds.r refusal-reads.Post
-refusal κs arguments result result′ exit exit′ = same
+pub part-refusal :
+    Determined 1 part-refusal-kinds.ps part-refusal-kinds.r part-refusal-reads.Post
+part-refusal κs arguments result result′ exit exit′ = same
 
-pub part :
-    DeterminedAs 1 part-kinds.ps part-kinds.r part-reads.Post (List ℕ)
+pub shown :
+    DeterminedAs 1 shown-kinds.ps shown-kinds.r shown-reads.Post (List ℕ)
     (λ κs result exit. now result)
-part κs arguments result result′ exit exit′ = same
+shown κs arguments result result′ exit exit′ = same
+
+pub sent-refusal :
+    Determined 1 sent-refusal-kinds.ps sent-refusal-kinds.r sent-refusal-reads.Post
+sent-refusal κs arguments result result′ exit exit′ = same
+
+pub sent-part :
+    DeterminedAs 1 sent-part-kinds.ps sent-part-kinds.r sent-part-reads.Post (List ℕ)
+    (λ κs result exit. now result)
+sent-part κs arguments result result′ exit exit′ = same

@@ -5,7 +5,7 @@
 --     LentBlock     what is done to a lent block is done to that block of the whole
 --     TimeLaws      elapsed time, added to the earlier stamp
 --     HostLaws      the host's write, word by word
---     SentLaws      the part of words to send
+--     PartLaws      a part that is shown
 --     Determined    each public contract allows one outcome alone
 --     Examples      the definitions pinned, by computation
 pub mod Frame
@@ -14,6 +14,6 @@ pub mod CellLaws
 pub mod LentBlock
 pub mod TimeLaws
 pub mod HostLaws
-pub mod SentLaws
+pub mod PartLaws
 pub mod Determined
 mod Examples

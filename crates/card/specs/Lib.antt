@@ -4,4 +4,5 @@ pub mod TableWord
 pub mod StateWord
 pub mod Time
 pub mod Host
+pub mod Part
 pub mod Sent

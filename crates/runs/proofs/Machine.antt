@@ -6,7 +6,7 @@ use Rattle.bus.specs.Kind.{kindOf}
 use Rattle.bus.specs.Status.{statusWord, caughtStatus, withoutError, withError}
 use Rattle.card.specs.Memory.{cellAt, withCell, withService, withLink}
 use Rattle.card.specs.StateWord.{stateWord}
-use Rattle.card.specs.Sent.{sentRefusal, sentPart}
+use Rattle.card.specs.Part.{partRefusal, shownPart}
 use Rattle.queue.specs.Queue.{withJoined, oldestWord, withoutOldest, fitQueue}
 use Rattle.message.specs.Message.{further, movedMessage}
 use Rattle.message.specs.Asked.{askedBy}
@@ -68,7 +68,7 @@ unfolding modeTable modeOf kindOf statusWord caughtStatus withoutError withError
 busWords = 0
 
 memory : ℕ
-unfolding cellAt withCell withService withLink stateWord sentRefusal sentPart
+unfolding cellAt withCell withService withLink stateWord partRefusal shownPart
 memory = 0
 
 queues : ℕ

@@ -12,10 +12,10 @@ use Rattle.rules.proofs.Choices.{by-test}
 use Rattle.rules.proofs.Clash.{clash}
 use Rattle.card.specs.declared.place.Block.{Block}
 use Rattle.card.specs.declared.place.Cell.{Cell}
-use Rattle.card.specs.Memory.{cardBlocks, wordAddress, cellAt}
+use Rattle.card.specs.Memory.{dataCells, cardBlocks, wordAddress, cellAt}
 use Rattle.card.specs.Sent.{sentPart}
 use Rattle.card.proofs.CellLaws.{part-of-same-cells}
-use Rattle.card.proofs.SentLaws.{same-part}
+use Rattle.card.proofs.PartLaws.{same-part}
 use Rattle.message.specs.declared.judge.SilenceAct.{SilenceAct}
 use Rattle.message.specs.declared.judge.SilenceAct.the-variants.{Ignore, AwaitStatus, Fault, End}
 use Rattle.message.specs.declared.state.OpenMessage.{OpenMessage}
@@ -44,7 +44,7 @@ same-sent : (ram other : List ℕ) (block : Block) (count : ℕ) → length ram 
     → ((cell : Cell) → cell .0 < count → cellAt ram block cell ≡ cellAt other block cell)
     → sentPart cardBlocks ram block count ≡ sentPart cardBlocks other block count
 same-sent ram other block count long cells =
-    same-part cardBlocks ram other block count long
+    same-part cardBlocks dataCells ram other block count long
     (part-of-same-cells ram other block count long cells)
 
 -- answers, with what holds where one sends words

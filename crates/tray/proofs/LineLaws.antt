@@ -10,9 +10,10 @@ use lib.Dec.{eqb}
 use lib.ListN.{length, take, drop, length-take}
 use borrow.Author.Tests.{eqb-true, ne-eqb}
 use Rattle.card.specs.declared.place.Block.{Block}
-use Rattle.card.specs.Memory.{cardBlocks, theCell, wordAddress}
+use Rattle.card.specs.Memory.{dataCells, cardBlocks, theCell, wordAddress}
+use Rattle.card.specs.Part.{shownPart}
 use Rattle.card.specs.Sent.{sentRefusal, sentPart}
-use Rattle.card.proofs.SentLaws.{shown}
+use Rattle.card.proofs.PartLaws.{shown}
 use Rattle.terminal.specs.declared.state.Answer.{Answer}
 use Rattle.terminal.specs.declared.state.Answer.the-variants.{Replied, QueueWord}
 use Rattle.terminal.specs.declared.state.Reply.{Reply}
@@ -38,7 +39,7 @@ nothing-written out at =
 -- no reply sends more than 32 words
 pub few-sent : (ram : List ℕ) (block : Block) (count : ℕ)
     → length (sentPart cardBlocks ram block count) ≤ mostWords
-unfolding sentPart
+unfolding shownPart
 few-sent ram block count = go (eqb number 0) refl where
   number : ℕ
   number = sentRefusal cardBlocks (length ram) block count
@@ -48,7 +49,7 @@ few-sent ram block count = go (eqb number 0) refl where
   go true is =
       omega (
         arith,
-        shown cardBlocks (length ram) block count (eqb-true number 0 is) .at-most,
+        shown cardBlocks dataCells (length ram) block count (eqb-true number 0 is) .at-most,
         length-take count (drop (wordAddress block (theCell 0)) ram),
       )
   go false is = omega arith

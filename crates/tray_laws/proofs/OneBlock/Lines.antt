@@ -5,8 +5,8 @@ use mathlib.Core.List.{List, [], _∷_}
 use Prim.Native.Nat.{ℕ}
 use lib.ListN.{length, take, drop}
 use Rattle.card.specs.declared.place.Block.{Block}
-use Rattle.card.specs.Memory.{cardBlocks, theCell, wordAddress}
-use Rattle.card.proofs.SentLaws.{same-part}
+use Rattle.card.specs.Memory.{dataCells, cardBlocks, theCell, wordAddress}
+use Rattle.card.proofs.PartLaws.{same-part}
 use Rattle.message.specs.declared.state.Message.{Message}
 use Rattle.terminal.specs.declared.state.Reply.the-variants.{Silent, Status, Words, Last}
 use Rattle.terminal.specs.declared.state.Answer.{Answer}
@@ -41,7 +41,7 @@ same-answer-line (Replied Silent) ram other long words = refl
 same-answer-line (Replied (Status status)) ram other long words = refl
 same-answer-line (Replied (Words status block count)) ram other long words =
     ap (λ (sent : List ℕ). statusLine status sent)
-    (same-part cardBlocks ram other block count long (words status block count refl))
+    (same-part cardBlocks dataCells ram other block count long (words status block count refl))
 same-answer-line (Replied (Last status last)) ram other long words = refl
 same-answer-line (QueueWord oldest) ram other long words = refl
 

@@ -1,9 +1,9 @@
--- `card::sent::part` meets its contract: the number that it asks for tells that the part is there.
+-- `card::part::shown` meets its contract: the number that it asks for tells that the part is there.
 -- Assumes nothing.
 use borrow.Author.Needs.{needs}
-use Rattle.card.proofs.SentLaws.{parts}
-use Rattle.card.proofs.sent.part.Statement.{statement}
-use Rattle.card.proofs.sent.part.Tie as tie
+use Rattle.card.proofs.PartLaws.{parts}
+use Rattle.card.proofs.part.shown.Statement.{statement}
+use Rattle.card.proofs.part.shown.Tie as tie
 
 refusal-requires : tie.Need-refusal-requires
 refusal-requires c κs = search needs
@@ -41,8 +41,8 @@ part-result-end-2 c = search (needs, parts)
 returns-2 : tie.Need-returns-2
 returns-2 c = search (needs, parts)
 
-pub part-spec : {M : Type 1} → statement M
-part-spec =
+pub shown-spec : {M : Type 1} → statement M
+shown-spec =
     tie.close
     (tie.spec
     refusal-requires

@@ -1,0 +1,5 @@
+-- The mathematics of what comes back of a message.
+--     OrderLaws    the command that asks, and the bounds of what it asks for
+--     JudgeLaws    how the code comes to each decision on a word or a silence
+pub mod OrderLaws
+pub mod JudgeLaws
