@@ -1,0 +1,2 @@
+// One bus: a controller and terminals of different stations, joined. Definitions and proofs, no
+// code.
