@@ -128,13 +128,7 @@ impl Controller {
 
     // A word that is taken is stored, in the cell of its number on the bus; one that brings a fault
     // is not.
-    fn word_done(
-        self,
-        act: WordAct,
-        message: OpenMessage,
-        ram: &mut [u16],
-        word: Word,
-    ) -> Heard
+    fn word_done(self, act: WordAct, message: OpenMessage, ram: &mut [u16], word: Word) -> Heard
         ensures { λ heard. ⌜ heardAs (heard .result) (desk (heard .controller) (now (ram .exit)))
             ≡ wordDone act message word (desk self (now (ram .entry))) ⌝ }
     {

@@ -6,10 +6,7 @@ use crate::row::Row;
 
 // What a code stands for.
 pub enum Coded {
-    Format {
-        row: Row,
-        broadcast: bool,
-    },
+    Format { row: Row, broadcast: bool },
     // the table lacks it
     Lacking,
 }
