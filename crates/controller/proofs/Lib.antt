@@ -2,6 +2,10 @@
 --     StartLaws     how the code comes to each start
 --     HeardLaws     .. to what a word or a silence does
 --     ActionLaws    .. to each answer of an action
+--     WrittenLaws   which cells are written, and which are kept
+--     Determined    each public contract allows one outcome alone
 pub mod StartLaws
 pub mod HeardLaws
 pub mod ActionLaws
+pub mod WrittenLaws
+pub mod Determined

@@ -3,11 +3,13 @@
 --     State      what the controller holds, and setup
 --     Start      what is given to the bus
 --     Heard      words and silences that come back, and the end of a message
+--     Written    which cells it writes
 --     Given      the words to give, as a part of the memory
 --     Actions    the same with their refusals
 pub mod Control
 pub mod State
 pub mod Start
 pub mod Heard
+pub mod Written
 pub mod Given
 pub mod Actions

@@ -6,7 +6,7 @@ use Rattle.bus.specs.Command.{wordsOf}
 use Rattle.bus.proofs.CommandLaws.{words-at-most}
 use Rattle.formats.specs.declared.row.Row.{Row}
 use Rattle.formats.specs.declared.row.Format.{Format}
-use Rattle.formats.specs.Row.{formatOf, lastCell}
+use Rattle.formats.specs.Row.{formatOf, lastCell, highestCell}
 use Rattle.formats.proofs.RowLaws as row
 use Rattle.exchange.specs.declared.order.Order.{Order}
 use Rattle.exchange.specs.Order.{askingBy, askingIn, formatFor}
@@ -40,8 +40,8 @@ module _ (order : Order) where
       row.reply-at-most (order .row) (order .broadcast) (wordsOf (askingIn order))
       (words-at-most (askingIn order))
 
-  -- no word stands above cell 35
-  pub last-at-most : lastCell (formatFor order) ≤ 35
+  -- no word stands above the highest cell
+  pub last-at-most : lastCell (formatFor order) ≤ highestCell
   unfolding formatFor
   last-at-most =
       row.last-at-most (order .row) (order .broadcast) (wordsOf (askingIn order))

@@ -1,5 +1,7 @@
 -- The mathematics of the message formats.
 --     RowLaws     a row as the code finds it, and its bounds
 --     CodeLaws    the arms of the code's own table of format codes
+--     Determined    each public contract allows one outcome alone
 pub mod RowLaws
 pub mod CodeLaws
+pub mod Determined

@@ -13,7 +13,7 @@ use Rattle.formats.specs.declared.row.Row.the-variants.{
   ModeForWord,
 }
 use Rattle.formats.specs.declared.row.Format.{Format}
-use Rattle.formats.specs.Row.{formatOf, lastCell}
+use Rattle.formats.specs.Row.{formatOf, lastCell, highestCell}
 
 -- an arm: what it makes is the row that it stands for
 pub row-is : (format : Format) (row named : Row) (broadcast : Bool) (n count : ℕ)
@@ -43,9 +43,9 @@ reply-at-most ModeAlone broadcast n few = omega arith
 reply-at-most ModeWithWord broadcast n few = omega arith
 reply-at-most ModeForWord broadcast n few = omega arith
 
--- no word stands above cell 35
+-- no word stands above the highest cell
 pub last-at-most : (row : Row) (broadcast : Bool) (n : ℕ) → n ≤ 32
-    → lastCell (formatOf row broadcast n) ≤ 35
+    → lastCell (formatOf row broadcast n) ≤ highestCell
 unfolding formatOf
 last-at-most ToTerminal broadcast n few = omega (arith, few)
 last-at-most FromTerminal broadcast n few = omega (arith, few)

@@ -41,6 +41,10 @@ replyCell format = statusCell format + 1
 abbrev pub lastCell : Format → ℕ
 lastCell format = replyCell format + format .reply
 
+-- no word of a message stands above this cell
+abbrev pub highestCell : ℕ
+highestCell = 35
+
 -- the first cell that holds data, whichever way they go: 1 .. n, 2 .. n + 1, 3 .. n + 2, none, 1, 2
 abbrev pub dataCell : Row → ℕ
 dataCell ToTerminal = 1

@@ -1,9 +1,7 @@
 -- `exchange::state::Exchange::word_heard` meets its contract, by the stage. Assumes nothing.
-use mathlib.Core.Path.{ap}
-use mathlib.Core.Bool.{Bool, cond}
 use native.Mathlib.Omega.{arith}
 use borrow.Author.Needs.{needs}
-use Rattle.rules.proofs.Clash.{clash}
+use Rattle.rules.proofs.Clash.{not-both}
 use Rattle.exchange.proofs.JudgeLaws.{reply-begins, last-stands, data-stand, words}
 use Rattle.exchange.proofs.state.Exchange.word_heard.Statement.{statement}
 use Rattle.exchange.proofs.state.Exchange.word_heard.Tie as tie
@@ -66,7 +64,7 @@ add-data-heard-2 c =
     omega (arith, reply-begins (start .before .args .order) format (start .format .ensures))
 
 data-heard-requires-2 : tie.Need-data-heard-requires-2
-data-heard-requires-2 c κs = λ is. absurd (clash (ap (λ (test : Bool). cond test 0 1) is))
+data-heard-requires-2 c κs = λ is. absurd (not-both is)
 
 returns : tie.Need-returns
 returns c = search (needs, words)
