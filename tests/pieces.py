@@ -11,7 +11,7 @@ import generate
 import programs
 
 PEER = programs.peer("cells")
-SANITIZED = programs.peer("cells", build="peer/sanitized")
+SANITIZED = programs.peer("cells", build="peer/sanitized_peer")
 
 # The peer allocates nothing; the leak scan at exit would only cost seconds a run.
 os.environ.setdefault("ASAN_OPTIONS", "detect_leaks=0")
