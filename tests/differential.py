@@ -1,6 +1,6 @@
 #!/usr/bin/env python3
-"""The proved programs against the peer's, on generated recordings of the tray and of the controller:
-every line, every item of the state, every cell. Leaves 1 on a difference.
+"""The proved programs against the peer's, on generated recordings of the tray and of the
+controller: every line, every item of the state, every cell. Leaves 1 on a difference.
 
     differential.py                     seeds 1 to 300 of either kind; a rule, code or refusal that
                                         none of them reaches counts as a failure too
@@ -24,8 +24,9 @@ class Kind:
         self.name = name
         self.generator = generator
         self.peer = peer
-        self.pairs = [(programs.compiled(f"{name}_{what}"), programs.peer(*words, build=f"peer/{peer}"))
-                      for what, *words in (("run",), ("cells", "cells"))]
+        build = f"peer/{peer}"
+        self.pairs = ((programs.compiled(f"{name}_run"), programs.peer(build=build)),
+                      (programs.compiled(f"{name}_cells"), programs.peer("cells", build=build)))
 
     def outputs(self, seed):
         """The recording, and ours beside the peer's for each pair."""
@@ -67,7 +68,8 @@ def main():
     chosen = [int(seed) for seed in sys.argv[1:3]]
     first, last = chosen or (1, 300)
     failed = False
-    for kind in (Kind("tray", generate, "peer"), Kind("controller", generate_controller, "controller")):
+    for kind in (Kind("tray", generate, "peer"),
+                 Kind("controller", generate_controller, "controller")):
         differences, missing = compare(kind, range(first, last + 1))
         failed = failed or differences > 0 or (len(missing) > 0 and not chosen)
     return 1 if failed else 0

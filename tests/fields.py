@@ -126,9 +126,11 @@ def line_above_1(generator, at_end=False):
 def cells_past_end(generator, at_end=False):
     if at_end:
         chance = generator.random
-        address, count = chance.choice(((16383, 2), (16384, 1), (65535, 1), (16321, 64), (65472, 64),
-                                        (16384 - 5, 6), (chance.randrange(16384, 65536), 3)))
-        generator.out += generator.write_field(address, [chance.getrandbits(16) for _ in range(count)])
+        address, count = chance.choice((
+            (16383, 2), (16384, 1), (65535, 1), (16321, 64), (65472, 64), (16384 - 5, 6),
+            (chance.randrange(16384, 65536), 3)))
+        words = [chance.getrandbits(16) for _ in range(count)]
+        generator.out += generator.write_field(address, words)
     return False
 
 

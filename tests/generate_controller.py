@@ -32,6 +32,7 @@ MODES_FOR_WORD = (16, 18, 19)
 ENDINGS = (
     (FORMATS, ("fault", "given", "unsound")),
     (FORMATS, ("fault", "given", "word")),
+    (FORMATS, ("fault", "given", "word")),
     (REPLYING, ("fault", "awaiting", "unsound")),
     (REPLYING, ("fault", "awaiting", "data sync")),
     (REPLYING, ("fault", "awaiting", "address")),
@@ -57,6 +58,7 @@ ENDINGS = (
     (BETWEEN, ("mark", "awaiting")),
     (SENDING, ("marked fault",)),
     (FORMATS, ("stop",)),
+    (LACKING, ("go on",)),
     (LACKING, ("go on",)),
     (LACKING, ("go on",)),
     (LACKING, ("none left",)),
@@ -148,8 +150,10 @@ class Generator(common.Writer):
         other = (station + chance.randrange(1, 30)) % 31
         count = self.some_count()
         mode = chance.choice({4: MODES_WITH_WORD, 5: MODES_FOR_WORD}.get(row, MODES))
-        first = (command_word(station, 1 if row == 1 else 0, self.data_subaddress(), count) if row <= 2
-                 else command_word(station, 0 if row == 4 else 1, chance.choice((0, 31)), mode))
+        if row <= 2:
+            first = command_word(station, 1 if row == 1 else 0, self.data_subaddress(), count)
+        else:
+            first = command_word(station, 0 if row == 4 else 1, chance.choice((0, 31)), mode)
         second = chance.getrandbits(16)
         if row == 2:
             second = command_word(other, 1, self.data_subaddress(), count)
@@ -239,7 +243,8 @@ class Generator(common.Writer):
     def likely_word(self):
         chance = self.random
         first, second = self.shadow[64 * self.target:64 * self.target + 2]
-        return chance.choice((first & 0xF800, second & 0xF800, first, second, chance.getrandbits(16)))
+        statuses = first & 0xF800, second & 0xF800
+        return chance.choice((*statuses, first, second, chance.getrandbits(16)))
 
     def any_marks(self):
         return self.random.choice((COMMAND | SOUND, COMMAND | SOUND | JOINED, SOUND | JOINED, SOUND,
@@ -257,7 +262,8 @@ class Generator(common.Writer):
         start = 64 * block
         draw = chance.random()
         if draw < 0.2:
-            self.put(self.write_field(start, self.commands(chance.choice(FORMATS))[:chance.choice((1, 2))]))
+            words = self.commands(chance.choice(FORMATS))
+            self.put(self.write_field(start, words[:chance.choice((1, 2))]))
         elif draw < 0.3:
             self.put(self.write_field(start + 1, [chance.getrandbits(16)]))
         elif draw < 0.6:                               # the chain goes on elsewhere
@@ -322,7 +328,8 @@ class Generator(common.Writer):
         chance = self.random
         for place, (found, marks, value) in enumerate(steps):
             if found == stage and marks is not None:
-                bits = chance.choice((1 << chance.randrange(11), chance.randrange(1, 2048), 0x400, 8))
+                one, some = 1 << chance.randrange(11), chance.randrange(1, 2048)
+                bits = chance.choice((one, some, 0x400, 8))
                 steps[place] = (found, marks, value | bits)
             elif found == "last" and chance.random() < 0.3:
                 steps[place] = (found, marks, value | chance.getrandbits(11))
@@ -376,9 +383,9 @@ class Generator(common.Writer):
         elif kind == "mark":
             self.set_bits(steps, *rest)
         elif kind == "marked fault":
+            faults = ("silence", "not joined", "too many", "command sync", "unsound")
             self.set_bits(steps, "awaiting")
-            self.break_steps(steps, "reply", self.random.choice(("silence", "not joined", "too many",
-                                                                 "command sync", "unsound")))
+            self.break_steps(steps, "reply", self.random.choice(faults))
         elif kind == "open":
             places = [place for place, step in enumerate(steps) if step[0] == rest[0]]
             if places:
@@ -444,7 +451,8 @@ class Generator(common.Writer):
             self.idle()
 
     def emit_unread(self):
-        self.out += START + self.word_field(COMMAND | SOUND, self.likely_word()) + self.silence_field(0)
+        self.out += START + self.word_field(COMMAND | SOUND, self.likely_word())
+        self.out += self.silence_field(0)
 
 
 # ---- malformed fields, beside those of every kind of recording
@@ -452,7 +460,7 @@ class Generator(common.Writer):
 def unknown_tag(generator, at_end=False):
     if at_end:
         chance = generator.random
-        tag = chance.choice((0, 1, 4, 6, 7, 8, 9, 0x0C, 0x12, 0x13, 0xFF, chance.randrange(0x0C, 256)))
+        tag = chance.choice((0, 1, 4, 6, 7, 8, 9, 0x0C, 0x12, 0x13, chance.randrange(0x0C, 256)))
         if chance.random() < 0.4:                      # the last byte of all
             generator.out.append(tag)
             generator.emit_unread = lambda: None
@@ -464,7 +472,8 @@ def unknown_tag(generator, at_end=False):
 def cut_length(generator, at_end=False):
     if at_end:
         chance = generator.random
-        generator.out += bytes([chance.choice((2, 3, 5, 0x0A, 0x0B))]) + chance.choice((b"", b"\x00", b"\xFF"))
+        generator.out.append(chance.choice((2, 3, 5, 0x0A, 0x0B)))
+        generator.out += chance.choice((b"", b"\x00", b"\xFF"))
         generator.emit_unread = lambda: None
     return False
 
@@ -521,11 +530,14 @@ def damaged_byte(generator, at_end=False):
     return False
 
 
-MALFORMED_OPEN = (common.spare_marks, common.line_above_1, common.cells_past_end, unknown_tag, setup_repeated)
-MALFORMED = (unknown_tag, unknown_tag, cut_length, wrong_length, wrong_length, wrong_length, cut_value,
-             cut_value, common.cut_anywhere, setup_missing, setup_missing, setup_repeated, damaged_byte,
-             damaged_byte, common.spare_marks, common.spare_marks, common.line_above_1,
-             common.line_above_1, common.cells_past_end, common.nothing_at_all)
+# In turn, by the seed; the first ones where the ending leaves a message open.
+MALFORMED_OPEN = (common.spare_marks, common.line_above_1, common.cells_past_end, unknown_tag,
+                  setup_repeated)
+MALFORMED = (unknown_tag, unknown_tag, cut_length, wrong_length, wrong_length, wrong_length,
+             cut_value, cut_value, common.cut_anywhere, setup_missing, setup_missing,
+             setup_repeated, damaged_byte, damaged_byte, common.spare_marks, common.spare_marks,
+             common.line_above_1, common.line_above_1, common.cells_past_end,
+             common.nothing_at_all)
 
 
 def recording(seed, fields=None, well_formed=False):

@@ -30,7 +30,8 @@ def compare(name, generator, seeds, fields, sizes):
         for how, found in runs:
             if found != wanted or wanted[0] != 0:
                 failures += 1
-                print(f"FAILED {name}, seed {seed}: {how}, left {found[0]} {found[2].decode()[:2000]}")
+                print(f"FAILED {name}, seed {seed}: {how}, left {found[0]} "
+                      f"{found[2].decode()[:2000]}")
     print(f"{name}: {len(seeds)} seeds, {fields or 'any number of'} fields, whole and in pieces of "
           f"{sizes}: {failures} failures", flush=True)
     return failures

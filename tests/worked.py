@@ -11,9 +11,11 @@ class Cases:
 
     def __init__(self, name, peer):
         if sys.argv[1:] == ["compiled"]:
-            self.run, self.cells = programs.compiled(f"{name}_run"), programs.compiled(f"{name}_cells")
+            self.run = programs.compiled(f"{name}_run")
+            self.cells = programs.compiled(f"{name}_cells")
         else:
-            self.run, self.cells = (programs.peer(*words, build=f"peer/{peer}") for words in ((), ("cells",)))
+            self.run = programs.peer(build=f"peer/{peer}")
+            self.cells = programs.peer("cells", build=f"peer/{peer}")
         self.count = self.failures = 0
 
     def outputs(self, recording):
