@@ -46,6 +46,7 @@ ENDINGS = (
     (SENDING, ("fault", "reply", "silence")),
     (SENDING, ("fault", "reply", "silence")),
     (SENDING, ("fault", "reply", "command sync")),
+    (SENDING, ("fault", "reply", "command sync")),
     (BETWEEN, ("fault", "last", "unsound")),
     (BETWEEN, ("fault", "last", "data sync")),
     (BETWEEN, ("fault", "last", "address")),
@@ -62,6 +63,7 @@ ENDINGS = (
     (LACKING, ("go on",)),
     (LACKING, ("go on",)),
     (LACKING, ("none left",)),
+    (FORMATS, ("none left",)),
     (FORMATS, ("none left",)),
     (FORMATS, ("go on",)),
     (FORMATS, ("open", "given")),
@@ -83,11 +85,13 @@ def count_of(command):
 class Generator(common.Writer):
     def __init__(self, seed, fields, well_formed, sink):
         super().__init__(seed, sink)
+        self.seed = seed
         chance = self.random
 
         # The character of this recording.
-        formats, self.ending = ENDINGS[seed % len(ENDINGS)]
-        self.target_code = formats[seed // len(ENDINGS) % len(formats)]
+        turn, place = divmod(seed, len(ENDINGS))
+        formats, self.ending = ENDINGS[place]
+        self.target_code = formats[turn % len(formats)]
         self.layout = chance.choice(("chain", "chain", "chain", "itself", "random"))
         self.pace = chance.choice(("small", "small", "small", "large", "wild", "still"))
         self.time = chance.choice((0, 40, 0xFFFFFF00, chance.getrandbits(32)))
@@ -98,9 +102,9 @@ class Generator(common.Writer):
         self.odd_rate = chance.choice((0.0, 0.1, 0.3))
         self.line_b_rate = chance.choice((0.0, 0.1, 0.5, 0.9))
         self.malformed = None
-        if not well_formed and seed % 2 == 1:
+        if not well_formed and (turn + place) % 2 == 1:
             kinds = MALFORMED_OPEN if self.ending[0] == "open" else MALFORMED
-            self.malformed = kinds[seed // 2 % len(kinds)]
+            self.malformed = kinds[(seed // 2 + turn) % len(kinds)]
         if fields is None:
             # the target's turn comes with this field; few recordings are cut off by a limit
             self.ripe = chance.choice((0, 0, chance.randrange(60), chance.randrange(300),
@@ -203,7 +207,7 @@ class Generator(common.Writer):
         self.control = self.controls[0]
         self.left = chance.choice((65535, 65535, self.limit, chance.randrange(100, 3000)))
         if self.ending[0] == "none left":
-            self.left = chance.choice((0, 1, 2, 3, 4, 5))
+            self.left = chance.choice((0, 0, 1, 2, 3, 4, 5))
         if self.left == 0 or (place == 0 and self.ripe == 0):
             self.control = self.target_control(self.control)   # the setup itself names the target
         self.put(setup_field(self.control, self.left))
@@ -328,8 +332,8 @@ class Generator(common.Writer):
         chance = self.random
         for place, (found, marks, value) in enumerate(steps):
             if found == stage and marks is not None:
-                one, some = 1 << chance.randrange(11), chance.randrange(1, 2048)
-                bits = chance.choice((one, some, 0x400, 8))
+                one, some = 1 << self.seed % 11, chance.randrange(1, 2048)
+                bits = chance.choice((one, one, one, some))
                 steps[place] = (found, marks, value | bits)
             elif found == "last" and chance.random() < 0.3:
                 steps[place] = (found, marks, value | chance.getrandbits(11))
@@ -353,7 +357,7 @@ class Generator(common.Writer):
         if kind == "word":                             # before the first silence
             return (stage, self.any_marks() | SOUND, self.likely_word())
         if kind == "data sync":
-            return (stage, SOUND | joined, chance.choice((awaited, self.likely_word())))
+            return (stage, SOUND | joined, chance.choice((awaited, self.wrong_address(awaited))))
         if kind == "address":
             return (stage, COMMAND | SOUND | joined, self.wrong_address(awaited))
         if kind == "not joined":
@@ -460,7 +464,8 @@ class Generator(common.Writer):
 def unknown_tag(generator, at_end=False):
     if at_end:
         chance = generator.random
-        tag = chance.choice((0, 1, 4, 6, 7, 8, 9, 0x0C, 0x12, 0x13, chance.randrange(0x0C, 256)))
+        trays = chance.choice((1, 4, 6, 7))            # a tag that tray recordings alone have
+        tag = chance.choice((trays, trays, 0, 8, 9, 0x0C, 0x12, 0x13, chance.randrange(0x0C, 256)))
         if chance.random() < 0.4:                      # the last byte of all
             generator.out.append(tag)
             generator.emit_unread = lambda: None
@@ -504,8 +509,11 @@ def cut_value(generator, at_end=False):
 
 
 def setup_missing(generator, at_end=False):
+    """Something else first, or a setup of another length."""
     chance = generator.random
+    length = chance.choice((0, 3, 5, 6, 7))
     generator.out += chance.choice((
+        lambda: struct.pack(">BH", 0x0A, length) + bytes(length),
         lambda: generator.word_field(chance.getrandbits(8), chance.getrandbits(16)),
         lambda: generator.silence_field(chance.getrandbits(8)),
         lambda: START,
