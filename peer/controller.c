@@ -193,7 +193,7 @@ static struct pause take_silence(const struct exchange *message)
 {
     switch (message->stage) {
     case CONTROLLER_GIVEN:
-        /* A group answers nothing, but the transmitter of row 2 does. */
+        /* X is in rows 0, 2, 3 and 4 alone, and row 2's transmitter answers. */
         if (message->group && message->row != ROW_BETWEEN_TERMINALS)
             return end_with(FAULT_NONE);
         return go_to(CONTROLLER_AWAITING);

@@ -66,7 +66,8 @@ enum fault {
     FAULT_TOO_MANY = 4,
     FAULT_WRONG_ANSWER = 5,
     FAULT_SYNC = 6,
-    FAULT_COMMAND = 7       /* superseded, or a command that does not fit */
+    FAULT_COMMAND = 7       /* superseded, or a command that does not fit; at the
+                               controller a word before its first silence */
 };
 
 /* Mode codes that the terminal treats by name. */

@@ -112,8 +112,8 @@ class Generator(common.Writer):
             self.limit = self.ripe + 3000
             self.tail = chance.choice((0, 0, chance.randrange(1, 6), chance.randrange(1, 40)))
         else:
-            self.ripe = self.tail = self.limit = fields
             self.ripe = fields * 4 // 5
+            self.limit = self.tail = fields
 
         # What the controller is known to hold.
         self.control = 0
