@@ -1,9 +1,10 @@
 /*
- * recording BYTES [modes]: writes a recording of about that many bytes, always the same, as a busy
- * rack's: receives, transmits, mode commands, transfers between stations, broken messages, queue
- * reads and the host's writes; or of mode commands alone. It ends after a whole message, so a run
- * of it prints END.
+ * recording BYTES [modes | controller]: writes a recording of about that many bytes, always the
+ * same, as a busy rack's: receives, transmits, mode commands, transfers between stations, broken
+ * messages, queue reads and the host's writes; or of mode commands alone; or what comes back to
+ * the controller. It ends after a whole message, so a run of it prints END.
  */
+#include <stdbool.h>
 #include <stdint.h>
 #include <stdio.h>
 #include <stdlib.h>
@@ -12,6 +13,7 @@
 enum { STATION = 5, OTHER = 9, TABLE = 1, COMMAND = 6, DATA = 12, UNSOUND = 8 };
 
 static uint64_t written;
+static bool counts_alone; /* what would be written is counted only */
 static uint32_t now;
 static uint64_t seed = 1;
 
@@ -25,7 +27,7 @@ static unsigned below(unsigned limit)
 static void put(uint32_t number, unsigned bytes)
 {
     written += bytes;
-    while (bytes-- > 0)
+    while (!counts_alone && bytes-- > 0)
         putchar((int)(number >> 8 * bytes & 255));
 }
 
@@ -175,22 +177,149 @@ static void message(void)
         queue_read();
 }
 
-int main(int argument_count, char **arguments)
-{
-    const int modes = argument_count == 3 && strcmp(arguments[2], "modes") == 0;
-    const int known = argument_count == 2 || modes;
-    const uint64_t wanted = known ? strtoull(arguments[1], NULL, 10) : 0;
+/*
+ * The controller's recording. A chain in a loop over CHAIN blocks; every reply is sound and no
+ * status has a bit set, so the chain goes on. A setup's count is at most 65,535, and a second
+ * setup is refused: after so many messages every start gives nothing and what comes back does
+ * nothing. So that the recording keeps the controller busy to its end it has no more of them;
+ * most have 32 words, which makes some 13 MB.
+ */
+enum { CHAIN = 64, MESSAGES = 65535, GO_ON = 0x10, LINE_B = 0x20 };
 
-    if (wanted == 0) {
-        fputs("usage: recording BYTES [modes]\n", stderr);
-        return 2;
+/* A message of the chain: block 1 + its place in it. */
+static struct link {
+    unsigned row;   /* of document 001's table of formats */
+    unsigned line;
+    unsigned first; /* its command, or in row 2 the receiver's */
+    unsigned other; /* row 2: the transmitter's station */
+} chain[CHAIN];
+
+static void choose_chain(void)
+{
+    static const uint8_t without_data[] = {0, 1, 2, 3, 5, 7, 8};
+
+    for (unsigned place = 0; place < CHAIN; place++) {
+        struct link *const link = &chain[place];
+        const unsigned draw = below(100);
+        const unsigned station = below(30);
+
+        link->row = draw < 40 ? 0 : draw < 65 ? 1 : draw < 85 ? 2 : draw < 90 ? 3
+            : draw < 95 ? 4 : 5;
+        link->line = below(8) == 0;
+        link->other = 30;
+        if (link->row <= 2)
+            link->first = command(station, link->row == 1, 1 + below(30), 32);
+        else if (link->row == 3)
+            link->first = command(station, 1, 0, without_data[below(sizeof without_data)]);
+        else
+            link->first = command(station, link->row == 5, 0, link->row == 5 ? 16 : 17);
     }
+}
+
+static unsigned control_word(unsigned place)
+{
+    return (1 + place) << 6 | (chain[place].line != 0 ? LINE_B : 0) | GO_ON | chain[place].row;
+}
+
+/* Setup, then commands and the next control word into each block. */
+static void prepare_controller(void)
+{
+    head(10, 4);
+    put(control_word(0), 2);
+    put(MESSAGES, 2);
+    for (unsigned place = 0; place < CHAIN; place++) {
+        const unsigned start = 64 * (1 + place);
+
+        host_write(start, chain[place].first);
+        host_write(start + 1, command(chain[place].other, 1, 1, 32));
+        host_write(start + 63, control_word((place + 1) % CHAIN));
+    }
+}
+
+/* The host's new data for a message that gives 32 words. */
+static void refill(unsigned place)
+{
+    head(5, 2 + 2 * 32);
+    put(64 * (1 + place) + 1, 2);
+    for (unsigned index = 0; index < 32; index++)
+        put(below(65536), 2);
+}
+
+/* Start, and the sound reply. */
+static void exchange(unsigned place)
+{
+    const struct link *const link = &chain[place];
+    const unsigned station = link->first >> 11;
+
+    if (link->row == 0)
+        refill(place);
+    head(11, 0);
+    silence(link->line);
+    word(COMMAND | link->line, (link->row == 2 ? link->other : station) << 11);
+    if (link->row == 1 || link->row == 2)
+        data_words(link->line, 32);
+    else if (link->row == 5)
+        data_words(link->line, 1);
+    silence(link->line);
+    if (link->row == 2) {
+        word(COMMAND | link->line, station << 11);
+        silence(link->line);
+    }
+}
+
+static void controller(uint64_t wanted)
+{
+    prepare_controller();
+    for (unsigned number = 0; number < MESSAGES && written < wanted; number++)
+        exchange(number % CHAIN);
+}
+
+/* False, with nothing written, where all messages together have fewer bytes. */
+static bool write_controller(uint64_t wanted)
+{
+    uint64_t most;
+
+    choose_chain();
+    counts_alone = true;
+    controller(UINT64_MAX);
+    most = written;
+    if (wanted > most) {
+        fprintf(stderr, "recording: %d messages, all that a controller may start, have %llu "
+                "bytes\n", MESSAGES, (unsigned long long)most);
+        return false;
+    }
+    written = 0;
+    counts_alone = false;
+    controller(wanted);
+    return true;
+}
+
+static void write_tray(uint64_t wanted, bool has_modes_alone)
+{
     prepare();
     while (written < wanted) {
-        if (modes)
+        if (has_modes_alone)
             mode_command(below(8) == 0);
         else
             message();
     }
+}
+
+int main(int argument_count, char **arguments)
+{
+    const char *const kind = argument_count == 3 ? arguments[2] : "";
+    const bool is_modes = strcmp(kind, "modes") == 0;
+    const bool is_controller = strcmp(kind, "controller") == 0;
+    const bool is_known = argument_count == 2 || is_modes || is_controller;
+    const uint64_t wanted = is_known ? strtoull(arguments[1], NULL, 10) : 0;
+
+    if (wanted == 0) {
+        fputs("usage: recording BYTES [modes | controller]\n", stderr);
+        return 2;
+    }
+    if (!is_controller)
+        write_tray(wanted, is_modes);
+    else if (!write_controller(wanted))
+        return 2;
     return fflush(stdout) == 0 ? 0 : 1;
 }

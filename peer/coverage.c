@@ -1,11 +1,13 @@
 /*
- * The observer: runs the reader one field at a time and counts what the field
+ * The observer of tray recordings: runs the reader one field at a time and counts what the field
  * reached, by the terminal before it, its value, and the terminal and the card
  * memory after it.  Which rule fitted is told by what became of the message; what
  * no state shows, a copy of the terminal is asked.
  */
-#include "coverage.h"
-#include "words.h"
+#include "peer.h"
+#include "tray_counters.h"
+
+#include "observer.h"
 
 struct word {
     unsigned marks;
@@ -420,11 +422,6 @@ static void count_queue_read(const struct terminal *before)
     }
 }
 
-static bool covers(unsigned address, unsigned word_count, unsigned first, unsigned last)
-{
-    return address <= last && first < address + word_count;
-}
-
 /* Where a host write hits the open message. */
 static void count_host_write(const struct terminal *before, unsigned address,
                              unsigned word_count)
@@ -484,60 +481,19 @@ static void count_field(const struct terminal *before, const struct terminal *af
     }
 }
 
-/* Refusal 8 of a field with this tag; the setup's station is refused before. */
-static void count_range(unsigned tag)
-{
-    COUNT_IF(tag == TAG_SETUP, refusal_8_setup_flags);
-    COUNT_IF(tag == TAG_WORD, refusal_8_marks);
-    COUNT_IF(tag == TAG_SILENCE, refusal_8_line);
-    COUNT_IF(tag == TAG_HOST_WRITE, refusal_8_cells);
-    COUNT_IF(tag == TAG_FLAGS, refusal_8_flags);
-}
-
-/* The field that was refused, with the bytes left from its first one on. */
+/* The field that was refused: what the terminal refuses, then what the reader does. */
 static void count_refusal(enum refusal refusal, unsigned tag, size_t left)
 {
-    COUNT_INDEX(refusal, refusal);
-    switch (refusal) {
-    case REFUSAL_STATION:
-        COUNT(refusal_2_station);
-        break;
-    case REFUSAL_CUT:
-        COUNT_IF(left < HEAD_BYTES, refusal_5_length);
-        COUNT_IF(left >= HEAD_BYTES, refusal_5_value);
-        break;
-    case REFUSAL_TAG:
-        COUNT_IF(left == 1, refusal_6_last_byte);
-        break;
-    case REFUSAL_LENGTH:
-        COUNT_INDEX(refusal_7_tag, tag);
-        break;
-    case REFUSAL_RANGE:
-        count_range(tag);
-        break;
-    case REFUSAL_SETUP:
-        COUNT_IF(tag == TAG_SETUP, refusal_9_again);
-        COUNT_IF(tag != TAG_SETUP, refusal_9_not_first);
-        break;
-    case REFUSAL_NONE:
-        break;
-    }
+    COUNT_IF(refusal == REFUSAL_STATION, refusal_2_station);
+    COUNT_IF(refusal == REFUSAL_RANGE && tag == TAG_SETUP, refusal_8_setup_flags);
+    COUNT_IF(refusal == REFUSAL_RANGE && tag == TAG_FLAGS, refusal_8_flags);
+    count_reader_refusal(refusal, tag, TAG_SETUP, left);
 }
 
-/* Up to the end of the field at the head, or all that is left where it is cut. */
-static size_t field_bytes(const uint8_t *field, size_t left)
+enum outcome recording_run_observed(struct recording *recording, const uint8_t *window,
+                                    size_t length, bool is_last, size_t *used)
 {
-    size_t whole;
-
-    if (left < HEAD_BYTES)
-        return left;
-    whole = HEAD_BYTES + (size_t)two_bytes(field + 1);
-    return whole < left ? whole : left;
-}
-
-enum outcome coverage_run(struct recording *recording, const uint8_t *window,
-                          size_t length, bool is_last, size_t *used)
-{
+    struct run *const run = &recording->run;
     enum outcome outcome;
     size_t taken;
 
@@ -549,9 +505,9 @@ enum outcome coverage_run(struct recording *recording, const uint8_t *window,
 
         outcome = recording_run(recording, field, field_bytes(field, left), is_last, &taken);
         if (taken != 0)
-            count_field(&before, &recording->terminal, recording->memory, field);
+            count_field(&before, &recording->terminal, run->memory, field);
         else if (outcome == OUTCOME_REFUSED)
-            count_refusal(recording->refusal, field[0], left);
+            count_refusal(run->refusal, field[0], left);
         *used += taken;
     } while (taken != 0);
     return outcome;

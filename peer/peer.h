@@ -1,39 +1,14 @@
 /*
  * The remote terminal with chained blocks of document 01, and the reader of
  * its tray recordings.  Nothing in terminal.c or recording.c allocates memory
- * or does input or output; main.c does the latter.
+ * or does input or output; program.c does the latter.
  */
 #ifndef PEER_H
 #define PEER_H
 
-#include <stdbool.h>
-#include <stddef.h>
-#include <stdint.h>
+#include "reader.h"
 
-/* "Card memory": 256 blocks of 64 cells of 16 bits. */
-enum {
-    BLOCK_CELLS = 64,
-    CARD_CELLS = 16384,
-
-    CELL_STATE_WORD = 58,
-    CELL_TIME_HIGH = 59,
-    CELL_TIME_LOW = 60,
-    CELL_ELAPSED = 61,
-    CELL_LINK = 63,
-
-    ELAPSED_MAXIMUM = 65535
-};
-
-/* "Refusal numbers", those a recording can meet (its table block is a byte). */
-enum refusal {
-    REFUSAL_NONE = 0,
-    REFUSAL_STATION = 2,
-    REFUSAL_CUT = 5,
-    REFUSAL_TAG = 6,
-    REFUSAL_LENGTH = 7,
-    REFUSAL_RANGE = 8,
-    REFUSAL_SETUP = 9
-};
+enum { ELAPSED_MAXIMUM = 65535 };
 
 /* "The terminal": the host's flags. */
 enum {
@@ -46,39 +21,13 @@ enum {
     FLAGS_ALL = 63
 };
 
-/* "Recordings": the marks of a word. */
+/* "Recordings": the tags of fields, beside those of every kind. */
 enum {
-    MARK_LINE_B = 1 << 0,
-    MARK_COMMAND_SYNC = 1 << 1,
-    MARK_SOUND = 1 << 2,
-    MARK_JOINED = 1 << 3,
-    MARKS_ALL = 15
-};
-
-/* "Recordings": the tags of fields; a field's head is its tag and length. */
-enum tag {
     TAG_SETUP = 1,
-    TAG_WORD = 2,
-    TAG_SILENCE = 3,
     TAG_QUEUE_READ = 4,
-    TAG_HOST_WRITE = 5,
     TAG_TABLE = 6,
     TAG_FLAGS = 7
 };
-
-enum { HEAD_BYTES = 3 };
-
-/* "High byte first". */
-static inline uint16_t two_bytes(const uint8_t *bytes)
-{
-    return (uint16_t)((unsigned)bytes[0] << 8 | bytes[1]);
-}
-
-static inline uint32_t four_bytes(const uint8_t *bytes)
-{
-    return (uint32_t)bytes[0] << 24 | (uint32_t)bytes[1] << 16 | (uint32_t)bytes[2] << 8
-        | bytes[3];
-}
 
 enum stage {
     STAGE_DATA,     /* words, if any are wanted, then silence */
@@ -152,53 +101,19 @@ enum refusal terminal_word(struct terminal *terminal, uint16_t *memory,
 enum refusal terminal_silence(struct terminal *terminal, uint16_t *memory,
                               unsigned line, uint32_t time, struct reply *reply);
 uint16_t terminal_read_queue(struct terminal *terminal);
-enum refusal terminal_host_write(uint16_t *memory, unsigned address,
-                                 const uint8_t *bytes, unsigned word_count);
 void terminal_set_table(struct terminal *terminal, uint8_t table);
 enum refusal terminal_set_flags(struct terminal *terminal, unsigned flags);
 
-/* Lines printed and not yet written.  While used is at most TEXT_NEARLY_FULL
-   there is room for any one line. */
-enum {
-    TEXT_BYTES = 262144,
-    TEXT_NEARLY_FULL = TEXT_BYTES - 256
-};
-
-struct text {
-    size_t used;
-    char bytes[TEXT_BYTES];
-};
-
-void text_string(struct text *text, const char *string);
-void text_hex(struct text *text, uint32_t number, unsigned digits);
-void text_decimal(struct text *text, uint64_t number);
-
-/* The longest field is a host write of 64 words. */
-enum { LONGEST_FIELD = HEAD_BYTES + 2 + 2 * 64 };
-
-enum outcome {
-    OUTCOME_NEEDS_INPUT,    /* every whole field in the window was run */
-    OUTCOME_TEXT_FULL,      /* the text has to be written first */
-    OUTCOME_ENDED,          /* the input ended after a whole field */
-    OUTCOME_REFUSED
-};
-
 struct recording {
     struct terminal terminal;
-    bool has_terminal;      /* the setup was taken */
-    enum refusal refusal;
-    uint64_t fields;        /* fields taken */
-    uint64_t offset;        /* of the next field's, or the refused one's, first byte */
-    uint16_t memory[CARD_CELLS];
-    struct text text;
+    struct run run;
 };
 
-/* Runs the whole fields at the head of the window and sets *used to the bytes
-   they fill.  is_last: no bytes will follow those in the window. */
+/* reader_run for a tray recording; the second, in the build with counters, with
+   what each field reaches counted. */
 enum outcome recording_run(struct recording *recording, const uint8_t *window,
                            size_t length, bool is_last, size_t *used);
-
-/* Prints the last line: END or a refusal. */
-void recording_print_end(struct recording *recording);
+enum outcome recording_run_observed(struct recording *recording, const uint8_t *window,
+                                    size_t length, bool is_last, size_t *used);
 
 #endif

@@ -1,6 +1,5 @@
 /* The terminal of document 01: "The terminal" up to "Recordings". */
 #include "peer.h"
-#include "words.h"
 
 enum { STATION_MAXIMUM = 30 };
 
@@ -31,11 +30,6 @@ static const struct mode modes[32] = {
     [20] = {true, false, true, 31, 1, 0},
     [21] = {true, false, true, 31, 1, 0},
 };
-
-static unsigned word_address(unsigned block, unsigned cell)
-{
-    return BLOCK_CELLS * block + cell;
-}
 
 /* "Opening": own command.  Broadcast is judged by the flags as they stand. */
 static bool is_own_command(const struct terminal *terminal, unsigned marks, unsigned value)
@@ -93,7 +87,7 @@ static void open_message(struct terminal *terminal, const uint16_t *memory,
     terminal->is_open = true;
 
     if (is_data) {
-        const uint8_t count = low_five == 0 ? 32 : (uint8_t)low_five;
+        const uint8_t count = (uint8_t)count_of(command);
 
         is_legal = !(message->broadcast && direction);
         message->cell = (uint8_t)(32 * direction + subaddress);
@@ -421,18 +415,6 @@ uint16_t terminal_read_queue(struct terminal *terminal)
     terminal->queue_start = (uint8_t)(terminal->queue_start + 1u); /* modulo 256 */
     terminal->queue_count--;
     return (uint16_t)answer;
-}
-
-/* Tag 05; the reader's length has made word_count 1 to 64. */
-enum refusal terminal_host_write(uint16_t *memory, unsigned address,
-                                 const uint8_t *bytes, unsigned word_count)
-{
-    if (address + word_count > CARD_CELLS)
-        return REFUSAL_RANGE;
-    for (unsigned index = 0; index < word_count; index++)
-        memory[address + index] =
-            (uint16_t)((unsigned)bytes[2 * index] << 8 | bytes[2 * index + 1]);
-    return REFUSAL_NONE;
 }
 
 /* Tag 06; also the same number counts as set since the opening. */

@@ -1,10 +1,33 @@
 /*
- * The words of document 01, bit by bit, and the numbers of mode codes and faults.
+ * The words of document 01, bit by bit, and the numbers of mode codes, faults
+ * and refusals.
  */
 #ifndef WORDS_H
 #define WORDS_H
 
 #include <stdbool.h>
+
+/* "Recordings": the marks of a word. */
+enum {
+    MARK_LINE_B = 1 << 0,
+    MARK_COMMAND_SYNC = 1 << 1,
+    MARK_SOUND = 1 << 2,
+    MARK_JOINED = 1 << 3,
+    MARKS_ALL = 15
+};
+
+/* "Refusal numbers", those a recording can meet (its table block is a byte), and
+   14 of request K10. */
+enum refusal {
+    REFUSAL_NONE = 0,
+    REFUSAL_STATION = 2,
+    REFUSAL_CUT = 5,
+    REFUSAL_TAG = 6,
+    REFUSAL_LENGTH = 7,
+    REFUSAL_RANGE = 8,
+    REFUSAL_SETUP = 9,
+    REFUSAL_FORMAT = 14
+};
 
 /* "Status". */
 enum {
@@ -43,7 +66,8 @@ enum fault {
     FAULT_TOO_MANY = 4,
     FAULT_WRONG_ANSWER = 5,
     FAULT_SYNC = 6,
-    FAULT_COMMAND = 7       /* superseded, or a command that does not fit */
+    FAULT_COMMAND = 7       /* superseded, or a command that does not fit; at the
+                               controller a word before its first silence */
 };
 
 /* Mode codes that the terminal treats by name. */
@@ -79,6 +103,12 @@ static inline unsigned subaddress_of(unsigned command)
 static inline unsigned low_five_of(unsigned command)
 {
     return command & 31;
+}
+
+/* "Word count 0 means 32." */
+static inline unsigned count_of(unsigned command)
+{
+    return low_five_of(command) == 0 ? 32u : low_five_of(command);
 }
 
 static inline bool is_data_subaddress(unsigned subaddress)

@@ -8,22 +8,15 @@
 import struct
 import sys
 
-import programs
+import fields
+import worked
+from fields import word
 
-if sys.argv[1:] == ["compiled"]:
-    RUN, CELLS = programs.compiled("tray_run"), programs.compiled("tray_cells")
-else:
-    RUN, CELLS = programs.peer(), programs.peer("cells")
-failures = 0
-cases = 0
+cases = worked.Cases("tray", "peer")
 
 
 def setup(station=5, table=1, flags=0):
     return struct.pack(">BHBBB", 1, 3, station, table, flags)
-
-
-def word(marks, value, time):
-    return struct.pack(">BHBHI", 2, 7, marks, value, time)
 
 
 def command(value, time, line=0, joined=0):
@@ -35,11 +28,11 @@ def data(value, time, line=0):
 
 
 def silence(time, line=0):
-    return struct.pack(">BHBI", 3, 5, line, time)
+    return fields.silence(line, time)
 
 
 def write(address, *words):
-    return struct.pack(f">BHH{len(words)}H", 5, 2 + 2 * len(words), address, *words)
+    return fields.write(address, words)
 
 
 def table(block):
@@ -70,9 +63,7 @@ def mode(code, address=5, direction=None, subaddress=0):
 def check(name, recording, lines, state=(), cells=None, only=None):
     """lines: all lines printed; state: lines that must be among the state's; cells:
     every nonzero cell, or with only the cells named."""
-    global failures, cases
-    cases += 1
-    plain, shown = (programs.run(program, recording, check=True)[1].decode() for program in (RUN, CELLS))
+    plain, shown = cases.outputs(recording)
     wrong = []
     wanted = "".join(line + "\n" for line in lines)
     if plain != wanted:
@@ -95,9 +86,7 @@ def check(name, recording, lines, state=(), cells=None, only=None):
     for address, value in (only or {}).items():
         if found.get(address, 0) != value:
             wrong.append(f"cell {address} = {found.get(address, 0):04X}, wanted {value:04X}")
-    if wrong:
-        failures += 1
-        print(f"FAILED {name}: " + "; ".join(wrong))
+    cases.close(name, wrong)
 
 
 def hexes(text):
@@ -366,5 +355,4 @@ check("lines before a refusal stand", EXAMPLE + b"\xFF", ["S 2800", "Q 8002", f"
 check("33: a status on the tape", setup() + command(0x2800, 1), ["END 2"],
       ["open 2800 line A block 0 table 1 moved 0 busy 0 queued 0 opened 00000001 taken 0 second none stage skipping"])
 
-print(f"{cases - failures} of {cases} cases as worked by hand")
-sys.exit(1 if failures else 0)
+sys.exit(cases.report())

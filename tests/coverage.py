@@ -1,23 +1,23 @@
-"""How often recordings reach each rule, fault code, mode code and refusal, by the peer's build with
-counters (`make -C peer coverage`)."""
+"""How often recordings reach each rule, fault code, mode or format code and refusal, by the peer's
+builds with counters (`make -C peer coverage`)."""
 
 import os
 import tempfile
 
 import programs
 
-COUNTING = programs.peer(build="tests/coverage/peer")
-
 
 class Coverage:
-    def __init__(self):
+    def __init__(self, name):
+        """Of the peer's program of this name."""
+        self.counting = programs.peer(build=f"tests/coverage/{name}")
         self.totals = {}
         self.reached = {}
 
     def add(self, recording):
         with tempfile.TemporaryDirectory() as folder:
             counters = os.path.join(folder, "counters")
-            programs.run(COUNTING, recording, check=True,
+            programs.run(self.counting, recording, check=True,
                          env=dict(os.environ, PEER_COVERAGE=counters))
             with open(counters) as lines:
                 for line in lines:

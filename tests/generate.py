@@ -9,33 +9,18 @@ share of the recordings holds a malformed field, usually near the end;
 --well-formed keeps those out. --fields sets how many fields are written.
 """
 
-import argparse
-import io
-import random
 import struct
-import sys
 
-COMMAND, SOUND, JOINED = 2, 4, 8
-BROADCAST = 31
+import fields as common
+from fields import BROADCAST, COMMAND, JOINED, SOUND, Enough, command_word
+
 MODE_CODES_KNOWN = (0, 1, 2, 3, 4, 5, 6, 7, 8, 16, 17, 18, 19, 20, 21)
 MODE_CODES_TAKING = (17, 20, 21)
-FLUSH_BYTES = 1 << 20
 
 
-class Enough(Exception):
-    """The wanted number of fields is written."""
-
-
-def command_word(address, direction, subaddress, low_five):
-    return address << 11 | direction << 10 | subaddress << 5 | (low_five & 31)
-
-
-class Generator:
+class Generator(common.Writer):
     def __init__(self, seed, fields, well_formed, sink):
-        self.random = random.Random(seed)
-        self.sink = sink
-        self.out = bytearray()
-        self.count = 0
+        super().__init__(seed, sink)
         chance = self.random
 
         # The character of this recording.
@@ -54,7 +39,6 @@ class Generator:
         self.table = chance.choice((0, 1, 255, chance.randrange(256), chance.randrange(256)))
         self.flags = self.random_flags()
         self.time = chance.choice((0, 40, 0xFFFFFF00, 0xFFFFFFF0, chance.getrandbits(32)))
-        self.shadow = [0] * 16384    # host writes and links, as far as they are easily known
         self.cell = 1                # table cell of the message under way
         self.malformed = None
         if not well_formed and chance.random() < 0.5:
@@ -70,45 +54,8 @@ class Generator:
 
     # ---- fields ----------------------------------------------------------
 
-    def put(self, field):
-        if self.count >= self.limit:
-            raise Enough
-        self.out += field
-        self.count += 1
-        if len(self.out) >= FLUSH_BYTES:
-            self.sink.write(self.out)
-            self.out = bytearray()
-
-    def tick(self):
-        chance = self.random
-        draw = chance.random()
-        if self.pace == "still" and draw < 0.9:
-            step = 0
-        elif self.pace == "wild" and draw < 0.5:
-            step = chance.getrandbits(32)
-        elif self.pace == "large" and draw < 0.7:
-            step = chance.choice((65535, 65536, 65534, 30000, 32768, 70000, chance.getrandbits(20)))
-        elif draw < 0.004:
-            step = chance.choice((-1, -20, -65535, -65536, 1 << 31, 65535, 65536, 0,
-                                  0xFFFFFFFF - self.time, 0x100000000 - self.time))
-        else:
-            step = 20 if draw < 0.8 else int(draw * 100)
-        self.time = (self.time + step) & 0xFFFFFFFF
-        return self.time
-
     def setup_field(self, station, table, flags):
         return struct.pack(">BHBBB", 1, 3, station, table, flags)
-
-    def word_field(self, marks, value):
-        return struct.pack(">BHBHI", 2, 7, marks, value, self.tick())
-
-    def silence_field(self, line):
-        return struct.pack(">BHBI", 3, 5, line, self.tick())
-
-    def write_field(self, address, words):
-        if address + len(words) <= 16384:
-            self.shadow[address:address + len(words)] = words
-        return struct.pack(">BHH%dH" % len(words), 5, 2 + 2 * len(words), address, *words)
 
     # ---- the host --------------------------------------------------------
 
@@ -517,8 +464,11 @@ class Generator:
             return {16: 32, 19: 63}.get(command & 31, 31)
         return 32 * (command >> 10 & 1) + subaddress
 
+    likely_word = own_command
+
     def body(self):
         chance = self.random
+        self.put(self.setup_field(self.station, self.table, self.flags))
         self.lay_out()
         while True:
             if self.is_flood and chance.random() < 0.8:
@@ -542,34 +492,14 @@ class Generator:
             elif self.is_flood and self.count > self.limit * 4 // 5 and draw > 0.9:
                 self.read_all()
 
-    def write(self):
-        if self.malformed is not None and self.malformed(self):
-            return self.finish()
-        try:
-            self.put(self.setup_field(self.station, self.table, self.flags))
-            self.body()
-        except Enough:
-            pass
-        if self.malformed is not None:
-            self.limit += 10                           # what follows is not looked at
-            self.malformed(self, at_end=True)
-            if self.random.random() < 0.3:
-                self.emit_unread()
-        return self.finish()
-
     def emit_unread(self):
         try:
             self.emit(self.message())
         except Enough:
             pass
 
-    def finish(self):
-        self.sink.write(self.out)
-        self.sink.flush()
 
-
-# ---- malformed fields: called first at the start (true: the recording is done),
-# ---- then, where that was false, at the end
+# ---- malformed fields, beside those of every kind of recording
 
 def unknown_tag(generator, at_end=False):
     if at_end:
@@ -596,12 +526,11 @@ def wrong_length(generator, at_end=False):
     tag = chance.randrange(1, 8)
     right = {1: 3, 2: 7, 3: 5, 4: 0, 6: 1, 7: 1}
     if tag == 5:
-        length = chance.choice((0, 1, 2, 3, 5, 7, 129, 131, 132, 133, 256, 0xFFFF))
+        length = chance.choice(common.WRONG_WRITE_LENGTHS)
     else:
         length = chance.choice([length for length in (0, 1, 2, 3, 4, 5, 6, 7, 8, 256 + right[tag], 0xFFFF)
                                 if length != right[tag]])
-    value = bytes(min(length, 200))
-    generator.out += struct.pack(">BH", tag, length) + value[:chance.choice((len(value), 0, len(value) // 2))]
+    common.unread_wrong_length(generator, tag, length)
     return False
 
 
@@ -618,14 +547,6 @@ def cut_value(generator, at_end=False):
         lambda: struct.pack(">BHB", 7, 1, 0xFF)))()
     generator.out += field[:chance.randrange(3, len(field))]
     generator.emit_unread = lambda: None
-    return False
-
-
-def cut_anywhere(generator, at_end=False):
-    if at_end:
-        keep = generator.random.randrange(len(generator.out) + 1)
-        del generator.out[keep:]
-        generator.emit_unread = lambda: None
     return False
 
 
@@ -661,58 +582,22 @@ def setup_unfit(generator, at_end=False):
     return True
 
 
-def spare_marks(generator, at_end=False):
-    if at_end:
-        marks = generator.random.choice((16, 32, 64, 128, 255, 16 + COMMAND + SOUND))
-        generator.out += generator.word_field(marks, generator.own_command())
-    return False
-
-
 def spare_flags(generator, at_end=False):
     if at_end:
         generator.out += struct.pack(">BHB", 7, 1, generator.random.choice((64, 65, 128, 255)))
     return False
 
 
-def line_above_1(generator, at_end=False):
-    if at_end:
-        generator.out += generator.silence_field(generator.random.choice((2, 3, 128, 255)))
-    return False
-
-
-def cells_past_end(generator, at_end=False):
-    if at_end:
-        chance = generator.random
-        address, count = chance.choice(((16383, 2), (16384, 1), (65535, 1), (16321, 64), (65472, 64),
-                                        (16384 - 5, 6), (chance.randrange(16384, 65536), 3)))
-        generator.out += generator.write_field(address, [chance.getrandbits(16) for _ in range(count)])
-    return False
-
-
-def nothing_at_all(generator, at_end=False):
-    return True
-
-
 MALFORMED = (unknown_tag, unknown_tag, cut_length, wrong_length, wrong_length, wrong_length, cut_value,
-             cut_value, cut_anywhere, setup_missing, setup_repeated, setup_unfit, setup_unfit, setup_unfit,
-             spare_marks, spare_flags, line_above_1, line_above_1, cells_past_end, nothing_at_all)
+             cut_value, common.cut_anywhere, setup_missing, setup_repeated, setup_unfit, setup_unfit,
+             setup_unfit, common.spare_marks, spare_flags, common.line_above_1, common.line_above_1,
+             common.cells_past_end, common.nothing_at_all)
 
 
 def recording(seed, fields=None, well_formed=False):
     """A recording's bytes."""
-    sink = io.BytesIO()
-    Generator(seed, fields, well_formed, sink).write()
-    return sink.getvalue()
-
-
-def main():
-    parser = argparse.ArgumentParser(description=__doc__.split("\n")[0])
-    parser.add_argument("seed", type=int)
-    parser.add_argument("--fields", type=int, default=None)
-    parser.add_argument("--well-formed", action="store_true")
-    arguments = parser.parse_args()
-    Generator(arguments.seed, arguments.fields, arguments.well_formed, sys.stdout.buffer).write()
+    return common.recording(Generator, seed, fields, well_formed)
 
 
 if __name__ == "__main__":
-    main()
+    common.main(Generator, __doc__)
