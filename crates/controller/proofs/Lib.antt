@@ -1,9 +1,9 @@
 -- The mathematics of the controller.
---     StartLaws     how the code comes to each start
---     HeardLaws     .. to what a word or a silence does
---     ActionLaws    .. to each answer of an action
---     WrittenLaws   which cells are written, and which are kept
---     Determined    each public contract allows one outcome alone
+--     StartLaws      how the code comes to each start
+--     HeardLaws      .. to what a word or a silence does
+--     ActionLaws     .. to each answer of an action
+--     WrittenLaws    which cells are written, and which are kept
+--     Determined     each public contract allows one outcome alone
 pub mod StartLaws
 pub mod HeardLaws
 pub mod ActionLaws
