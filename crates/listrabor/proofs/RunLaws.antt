@@ -8,10 +8,11 @@ use lib.Dec.{eqb, ltb}
 use lib.ListN.{length, replicate}
 use borrow.Author.Tests.{ltb-false}
 use Rattle.card.specs.Memory.{cardWords}
+use Rattle.pieces.specs.AsCoded.Window.{mostTurns}
 use Rattle.tray.specs.declared.run.Tray.{Tray as HeldTray}
 use Rattle.tray.specs.declared.window.Passed.{Passed as HeldPassed}
 use Rattle.tray.specs.Run.{Tray, trayOver}
-use Rattle.tray.specs.AsCoded.Window.{Passed, windowRun, wholeRoom, mostTurns}
+use Rattle.tray.specs.AsCoded.Window.{Passed, windowRun, wholeRoom}
 use Rattle.tray.specs.AsCoded.Held.{trayOf, heldAtStart, passedOf}
 use Rattle.tray_laws.proofs.RoomLaws.{whole-tray, whole-count, whole-bytes}
 use Rattle.listrabor.specs.Lent.{sizeRefusal, lent, lentRun}
@@ -54,7 +55,7 @@ module _ (recording ram out : List ℕ) (number : ℕ)
         ∙ ap
         (λ (first : HeldTray). windowRun (trayOf first (replicate 256 0) ram) recording true out)
         at-start in
-        ap (λ (call : Passed). lent (call .put) (call .tray .card .ram) (call .out)) done
+        ap (λ (call : Passed). lent (call .put) (call .run .card .ram) (call .out)) done
         ∙ rw (
           whole-count recording out enough old few,
           whole-tray recording out enough old few,

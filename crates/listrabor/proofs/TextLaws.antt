@@ -30,7 +30,7 @@ module _ (recording ram out : List ℕ) where
   -- the text of a tray run, whose RAM starts zero
   pub prints-as-the-program : ram ≡ replicate cardWords 0 → number ≡ 0
       → lentRun recording ram out
-      ≡ lent (length (printed recording)) (wholeFrom trayAtStart recording .tray .card .ram)
+      ≡ lent (length (printed recording)) (wholeFrom trayAtStart recording .run .card .ram)
       (sets out 0 (printed recording))
   unfolding printed trayAtStart
   prints-as-the-program zero is =

@@ -33,7 +33,7 @@ lent count ram out = record { count = count; ram = ram; out = out }
 -- the text stands from the buffer's first byte on, all behind it as it was
 abbrev pub lentAfter : Whole → List ℕ → Lent
 lentAfter all out =
-    lent (length (all .text)) (all .tray .card .ram) (sets out 0 (all .text))
+    lent (length (all .text)) (all .run .card .ram) (sets out 0 (all .text))
 
 -- what a run of the recording leaves, or all as it was where a size is refused
 unfoldable pub lentRun : List ℕ → List ℕ → List ℕ → Lent

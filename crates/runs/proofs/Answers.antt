@@ -12,15 +12,16 @@ use Rattle.recording.specs.Value.{setup, readQueue, valuedAt, fieldOf}
 use Rattle.recording.specs.Accepted.{no-more, a-field, seenAfterAll}
 use Rattle.lines.specs.Digits.{hexWord}
 use Rattle.lines.specs.Lines.{queueLine, endLine, refusalLine}
+use Rattle.pieces.specs.LastLine.{lastLine}
+use Rattle.pieces.specs.Whole.{wholeOf, wholeBy, wholeFrom as everyWhole}
 use Rattle.tray.specs.Happening.{happeningOf, happenings, happened}
 use Rattle.tray.specs.Run.{
   Tray,
   trayAtStart,
-  lastLine,
   taking,
   takingLine,
-  wholeOf,
-  wholeBy,
+  metBy,
+  trayCourse,
   wholeFrom,
 }
 use Rattle.tray_laws.specs.Answered.{
@@ -43,8 +44,8 @@ read-bytes = 0x04 ∷ 0x00 ∷ 0x00 ∷ []
 -- to unfold `answers` is to unfold a tray run, and what an answer says of it
 unfoldable answers : ℕ
 unfolding runs readAt tagOf lengthFits fieldAt valuedAt fieldOf happeningOf happenings happened
-    trayAtStart lastLine taking takingLine wholeOf wholeBy wholeFrom seenAfterAll toldLines
-    toldCard trayAfter hexWord queueLine
+    trayAtStart lastLine taking takingLine metBy trayCourse wholeOf wholeBy everyWhole
+    seenAfterAll toldLines toldCard trayAfter hexWord queueLine
 answers = 0
 
 -- it prints the line of the queue read, and END 2
@@ -81,7 +82,7 @@ refused-answer =
 
 -- that it is always END
 not-always-the-end : ((start : Tray) (bytes : List ℕ) (answer : Answered start bytes)
-    → answer .line ≡ endLine (wholeFrom start bytes .tray .fields)) → ⊥
+    → answer .line ≡ endLine (wholeFrom start bytes .run .fields)) → ⊥
 unfolding refused-answer answers endLine refusalLine
 not-always-the-end always =
     let same : refusalLine 9 6 ≡ endLine 1 =

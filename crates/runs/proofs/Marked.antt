@@ -11,15 +11,16 @@ use Rattle.recording.specs.Reading.{readAt}
 use Rattle.recording.specs.Value.{valuedAt}
 use Rattle.lines.specs.Digits.{hexDigit, hexWord, decimalBy, decimal}
 use Rattle.lines.specs.Lines.{eachWord, statusLine, queueLine, endLine, refusalLine}
+use Rattle.pieces.specs.LastLine.{lastLine}
+use Rattle.pieces.specs.Whole.{wholeOf, wholeBy, wholeFrom as everyWhole}
 use Rattle.tray.specs.Happening.{happeningOf, happened}
 use Rattle.tray.specs.Run.{
   trayAtStart,
-  lastLine,
   taking,
   takingLine,
+  metBy,
+  trayCourse,
   Whole,
-  wholeOf,
-  wholeBy,
   wholeFrom,
 }
 use Rattle.runs.specs.Marked.{Holds, holds, Case, case, marked}
@@ -29,15 +30,15 @@ use Rattle.runs.proofs.Telling.{runs}
 abbrev found : Case → Case
 found wanted =
     let all : Whole = wholeFrom trayAtStart (wanted .recording) in
-    let card : Card = all .tray .card in
+    let card : Card = all .run .card in
     case (wanted .recording) (all .text) (card .core .status)
     (map (λ (at : Holds). holds (at .address) (getD (card .ram) (at .address) 0)) (wanted .cells))
 
 -- to unfold `all` is to unfold a tray run, from bytes to text
 unfoldable all : ℕ
 unfolding runs readAt tagOf lengthFits fieldAt valuedAt happeningOf happened trayAtStart lastLine
-    taking takingLine wholeOf wholeBy wholeFrom hexDigit hexWord decimalBy decimal eachWord
-    statusLine queueLine endLine refusalLine marked
+    taking takingLine metBy trayCourse wholeOf wholeBy everyWhole hexDigit hexWord decimalBy
+    decimal eachWord statusLine queueLine endLine refusalLine marked
 all = 0
 
 all-as-marked : map found marked ≡ marked

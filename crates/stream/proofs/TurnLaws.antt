@@ -10,9 +10,9 @@ use lib.Dec.{eqb}
 use lib.ListN.{length, take}
 use lib.Seq.{length-take-le}
 use borrow.Author.Tests.{eqb-true, eqb-false}
-use Rattle.tray.specs.declared.window.Stop.{Stop}
-use Rattle.tray.specs.declared.window.Stop.the-variants.{Going, Hungry, Full, Over}
-use Rattle.tray.specs.Run.{Tray}
+use Rattle.pieces.specs.declared.stop.Stop.{Stop}
+use Rattle.pieces.specs.declared.stop.Stop.the-variants.{Going, Hungry, Full, Over}
+use Rattle.pieces.specs.Course.{Course}
 use Rattle.stream.specs.declared.Heard.{Heard}
 use Rattle.stream.specs.declared.Pump.{Pump}
 use Rattle.stream.specs.Progress.{
@@ -34,25 +34,27 @@ use Rattle.stream.specs.AsCoded.Turns.{
   stays,
   ends-run,
   reads-on,
+  no-room,
 }
-use Rattle.stream.proofs.CallLaws.{Stepped}
+use Rattle.stream.proofs.StepLaws.{Stepped}
 
 -- in so many turns some input was read and some text printed; these bytes are left in the window
-pub record Reached (start : Tray) (turns : ℕ) (ended : Bool) (new : Tray) (window : List ℕ)
-    : Type 0 where
+pub record Reached {Run : Type 0} (course : Course Run) (start : Run) (turns : ℕ) (ended : Bool)
+    (new : Run) (window : List ℕ) : Type 0 where
   pub input : List ℕ
   pub text : List ℕ
-  pub progressed : Progressed start turns
-      (record { ended = ended; input = input; text = text; tray = new; window = window })
+  pub progressed : Progressed course start turns
+      (record { ended = ended; input = input; text = text; run = new; window = window })
 
--- `Pumped start turns new window ended over whole`: the program goes on after so many turns, with
--- these bytes in its window, or it is over, and its run whole or not
-pub data Pumped (start : Tray) (turns : ℕ) : Tray → List ℕ → Bool → Bool → Bool → Type 0 where
-  going : {ended : Bool} {new : Tray} {window : List ℕ}
-      → Reached start turns ended new window
-      → Pumped start turns new window ended false false
-  over : {ended whole : Bool} {new : Tray} {window : List ℕ} → Came start new whole
-      → Pumped start turns new window ended true whole
+-- `Pumped course start turns new window ended over whole`: the program goes on after so many turns,
+-- with these bytes in its window, or it is over, and its run whole or not
+pub data Pumped {Run : Type 0} (course : Course Run) (start : Run) (turns : ℕ)
+    : Run → List ℕ → Bool → Bool → Bool → Type 0 where
+  going : {ended : Bool} {new : Run} {window : List ℕ}
+      → Reached course start turns ended new window
+      → Pumped course start turns new window ended false false
+  over : {ended whole : Bool} {new : Run} {window : List ℕ} → Came course start new whole
+      → Pumped course start turns new window ended true whole
 
 -- a call that neither goes on nor is over nor needs bytes had no room for another line
 is-full : (stop : Stop) → stop ≢ Going → stop ≢ Over → stop ≢ Hungry → stop ≡ Full
@@ -67,23 +69,23 @@ no-piece [] none = refl
 no-piece (byte ∷ rest) none = absurd (omega arith)
 
 -- what a call leaves to do is done
-module _ {start old new : Tray} {turns : ℕ} {window : List ℕ} {have : ℕ} {ended : Bool}
-    (window′ : List ℕ) (pump : Pump) (stop : Stop)
-    (step : Stepped old window have ended new window′ pump stop)
-    (so-far : Reached start turns ended old (take have window)) where
+module _ {Run : Type 0} (course : Course Run) {start old new : Run} {turns : ℕ} {window : List ℕ}
+    {have : ℕ} {ended : Bool} (window′ : List ℕ) (pump : Pump) (stop : Stop)
+    (step : Stepped course old window have ended new window′ pump stop)
+    (so-far : Reached course start turns ended old (take have window)) where
   -- before the call
-  far : Far
+  far : Far Run
   far =
       record {
         ended = ended;
         input = so-far .input;
         text = so-far .text;
-        tray = old;
+        run = old;
         window = take have window;
       }
 
   -- the call, where it is the last
-  last : LastCall start new
+  last : LastCall course start new
   unfolding far
   last =
       record {
@@ -95,27 +97,27 @@ module _ {start old new : Tray} {turns : ℕ} {window : List ℕ} {have : ℕ} {
       }
 
   -- as far as a turn has come
-  reached : (next : Far) {left : List ℕ} → Progressed start (suc turns) next
-      → next .tray ≡ afterCall far (step .out) .tray → next .window ≡ left
-      → Reached start (suc turns) (next .ended) new left
+  reached : (next : Far Run) {left : List ℕ} → Progressed course start (suc turns) next
+      → next .run ≡ afterCall course far (step .out) .run → next .window ≡ left
+      → Reached course start (suc turns) (next .ended) new left
   unfolding far
-  reached next progressed is-tray is-left =
-      rw (step .is-new ∙ sym is-tray, ← is-left)
+  reached next progressed is-run is-left =
+      rw (step .is-new ∙ sym is-run, ← is-left)
       (record { input = next .input; text = next .text; progressed = progressed })
 
   -- it took a field, and leaves nothing to do
   stayed : stop ≢ Over → stop ≢ Hungry
-      → Reached start (suc turns) ended new (take (pump .have) window′)
+      → Reached course start (suc turns) ended new (take (pump .have) window′)
   unfolding far
   stayed other nor =
       let full : stop ≡ Full = is-full stop (step .stops) other nor in
-      reached (afterCall far (step .out))
+      reached (afterCall course far (step .out))
       (takes (step .out) (so-far .progressed) (step .is-stop ∙ full) (step .took full)) refl
       (sym (step .is-left))
 
   -- a read behind what the call left: it failed, brought nothing, or brought a piece
   by-read : (next : Pump) (window″ : List ℕ) → stop ≡ Hungry → ReadOn pump window′ next window″
-      → Pumped start (suc turns) new (take (next .have) window″)
+      → Pumped course start (suc turns) new (take (next .have) window″)
       (next .ended) (next .over) (next .whole)
   unfolding far last
   by-read next window″ hungry read =
@@ -126,15 +128,15 @@ module _ {start old new : Tray} {turns : ℕ} {window : List ℕ} {have : ℕ} {
         piece : List ℕ
         piece = read .grown .piece
 
-        here : Far
-        here = afterCall far (step .out)
+        here : Far Run
+        here = afterCall course far (step .out)
 
         all : here .window ++ piece ≡ take (heard .have) window″
         all =
             ap (λ (left : List ℕ). left ++ piece) (sym (step .is-left)) ∙ sym (read .grown .behind)
 
         go : (failed nothing : Bool) → eqb (heard .have) (pump .have) ≡ nothing
-            → Pumped start (suc turns) new
+            → Pumped course start (suc turns) new
             (take (heard .have) window″) nothing failed false
         go true nothing is = over (unread last (step .is-stop ∙ hungry))
         go false true is =
@@ -154,25 +156,28 @@ module _ {start old new : Tray} {turns : ℕ} {window : List ℕ} {have : ℕ} {
             (omega (arith, read .grown .is-more, other))) refl all)
 
 -- so far has the program come when that is done
-pub after-call-so : {start old new : Tray} {turns : ℕ} {window : List ℕ} {have : ℕ} {ended : Bool}
-    (window′ : List ℕ) (pump next : Pump) (stop : Stop) (window″ : List ℕ)
-    → Stepped old window have ended new window′ pump stop
+pub after-call-so : {Run : Type 0} (course : Course Run) {start old new : Run} {turns : ℕ}
+    {window : List ℕ} {have : ℕ} {ended : Bool} (window′ : List ℕ) (pump next : Pump) (stop : Stop)
+    (window″ : List ℕ)
+    → Stepped course old window have ended new window′ pump stop
     → AfterCall pump window′ stop next window″
-    → Reached start turns ended old (take have window)
-    → Pumped start (suc turns) new (take (next .have) window″)
+    → Reached course start turns ended old (take have window)
+    → Pumped course start (suc turns) new (take (next .have) window″)
     (next .ended) (next .over) (next .whole)
 unfolding last far
-after-call-so window′ pump next stop window″ step (breaks-off broken) so-far =
+after-call-so course window′ pump next stop window″ step (breaks-off broken) so-far =
     rw (broken, step .not-whole)
-    (over (broken-off (last window′ pump stop step so-far) (step .breaks broken)))
-after-call-so window′ pump next stop window″ step (stays taken other nor) so-far =
+    (over (broken-off (last course window′ pump stop step so-far) (step .breaks broken)))
+after-call-so course window′ pump next stop window″ step (stays taken other nor) so-far =
     rw (step .same-end, taken, step .not-whole)
-    (going (stayed window′ pump stop step so-far other nor))
-after-call-so window′ pump next stop window″ step (ends-run taken is-next) so-far =
+    (going (stayed course window′ pump stop step so-far other nor))
+after-call-so course window′ pump next stop window″ step (ends-run taken is-next) so-far =
     rw is-next
-    (over (finished (last window′ pump stop step so-far) (step .is-stop)))
-after-call-so window′ pump next stop window″ step (reads-on taken read) so-far =
-    by-read window′ pump stop step so-far next window″ refl read
+    (over (finished (last course window′ pump stop step so-far) (step .is-stop)))
+after-call-so course window′ pump next stop window″ step (reads-on taken read) so-far =
+    by-read course window′ pump stop step so-far next window″ refl read
+after-call-so course window′ pump next stop window″ step (no-room taken full is-next) so-far =
+    absurd (omega (arith, full, step .room refl, step .window-size))
 
 -- and its bytes are inside the window
 pub after-call-inside : (pump next : Pump) (window : List ℕ) (stop : Stop) (window′ : List ℕ)
@@ -183,3 +188,4 @@ after-call-inside pump next window stop window′ inside (stays _ _ _) = inside
 after-call-inside pump next window stop window′ inside (ends-run _ is-next) = rw is-next inside
 after-call-inside pump next window stop window′ inside (reads-on _ read) =
     rw (read .is-new) (read .grown .inside)
+after-call-inside pump next window stop window′ inside (no-room _ _ is-next) = rw is-next inside

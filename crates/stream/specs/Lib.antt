@@ -1,4 +1,4 @@
--- A run of standard input. To be read: `Progress` and `Came`.
+-- A run of standard input, whatever its fields are. To be read: `Progress` and `Came`.
 --     Progress    how far it has come, turn by turn
 --     Came        how it ends
 --     AsCoded     how the code is cut

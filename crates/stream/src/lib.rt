@@ -1,46 +1,34 @@
-// A run of the recording on standard input, its lines on standard output. The input is read in
-// large pieces into one window and the lines of a call are written at once, so that memory stays
-// the same whatever the length.
+// A program that runs a recording from standard input and writes its lines to standard output,
+// whatever the fields of the recording are. The input is read in large pieces into one window and
+// the lines of a call are written at once, so that memory stays the same whatever the length. The
+// loop itself is each program's own, since its run has a type of its own: a turn of it is a call
+// over the window, and `settle`.
 ghost use mathlib.Core.Path.{_≡_};
 ghost use mathlib.Core.Logic.{_≢_};
 ghost use mathlib.Core.Bool.{true};
-ghost use Prim.Native.Nat.{_≤_, _<_};
+ghost use Prim.Native.Nat.{_<_};
 ghost use lib.ListN.{length};
-ghost use Rattle.tray.specs.Run.{trayAtStart};
-ghost use Rattle.tray.specs.AsCoded.Held.{trayOf, heldAtStart};
-ghost use Rattle.stream.specs.Came.{Came};
 ghost use Rattle.stream.specs.AsCoded.Turns.{
-  Buffers,
-  RoomToRead,
   isFailure,
   Grown,
   afterRead,
   ReadOn,
   AfterCall,
-  ToSettle,
   Settled,
 };
 use io;
 use libc;
 use libc::STDIN_FILENO;
 use libc::STDOUT_FILENO;
-use tray;
-use tray::Stop;
-use tray::Tray;
+use pieces;
+use pieces::Stop;
 
 // How far a program has come beside its run: the bytes in its window, whether the input has ended,
 // whether the program has, and whether by the run's own end with every line taken.
-struct Pump {
-    have: usize,
-    ended: bool,
-    over: bool,
-    whole: bool,
-}
-
-// What a run leaves, and whether it is whole: it came to its own end, and the operating system took
-// every line of it.
-pub struct Done {
-    pub tray: Tray,
+pub struct Pump {
+    pub have: usize,
+    pub ended: bool,
+    pub over: bool,
     pub whole: bool,
 }
 
@@ -73,12 +61,15 @@ fn read_behind(window: &mut [u8], have: usize) -> Heard
 }
 
 // Writes the lines of a call. Answers whether that failed, which it cannot where there are none.
+// Lines that the buffer does not have are not written.
 fn fails_to_write(out: &[u8], put: usize) -> bool
-    requires { ⌜ put ≤ length (now out) ⌝ }
     ensures { λ failed. ⌜ (failed ≡ true → put ≢ 0) ⌝ }
 {
     if put == 0 {
         return false;
+    }
+    if out.len() < put {
+        return true;
     }
     !io::write_all(STDOUT_FILENO, &out[0..put])
 }
@@ -108,10 +99,23 @@ impl Pump {
         self.after_read(heard)
     }
 
+    // The program is over, by the run's own end or not.
+    fn ending(self, whole: bool) -> Pump
+        ensures { λ pump. ⌜ pump
+            ≡ record { have = self .have; ended = self .ended; over = true; whole = whole } ⌝ }
+    {
+        Pump {
+            have: self.have,
+            ended: self.ended,
+            over: true,
+            whole: whole,
+        }
+    }
+
     // Nothing is left to do where the lines of a call were not taken, even if they were the last; a
-    // read where it needs bytes.
+    // read where it needs bytes. No call needs bytes with a full window, and one that did would
+    // break the run off.
     fn after_call(self, window: &mut [u8], stop: Stop) -> Pump
-        requires { ⌜ RoomToRead (self .have) (now window) stop ⌝ }
         ensures { λ pump. ⌜ AfterCall self (now (window .entry)) stop pump (now (window .exit)) ⌝ }
     {
         if self.over {
@@ -120,25 +124,24 @@ impl Pump {
         match stop {
             Stop::Going => self,
             Stop::Full => self,
-            Stop::Over => Pump {
-                have: self.have,
-                ended: self.ended,
-                over: true,
-                whole: true,
-            },
-            Stop::Hungry => self.read_on(window),
+            Stop::Over => self.ending(true),
+            Stop::Hungry => {
+                if window.len() <= self.have {
+                    return self.ending(false);
+                }
+                self.read_on(window)
+            }
         }
     }
 
     // What a call leaves to do. Its lines are written, and a write that fails ends the program. The
     // bytes that it did not take stay in the window.
-    fn settle(self, window: &mut [u8], out: &[u8], at: usize, put: usize, stop: Stop) -> Pump
-        requires { ⌜ ToSettle (self .have) (now window) (now out) at put stop ⌝ }
+    pub fn settle(self, window: &mut [u8], out: &[u8], at: usize, put: usize, stop: Stop) -> Pump
         ensures { λ pump. ⌜ Settled self (now (window .entry)) at put stop
             pump (now (window .exit)) ⌝ }
     {
         let failed = fails_to_write(out, put);
-        let left = tray::keep_rest(window, at, self.have);
+        let left = pieces::keep_rest(window, at, self.have);
         let next = Pump {
             have: left,
             ended: self.ended,
@@ -147,53 +150,4 @@ impl Pump {
         };
         next.after_call(window, stop)
     }
-}
-
-// Runs the recording on standard input from its start, over what the lent memory holds. A turn is a
-// call and what it leaves to do.
-fn run_pieces(places: &mut [u16; 256], ram: &mut [u16], window: &mut [u8], out: &mut [u8]) -> Done
-    requires { ⌜ Buffers 0 (now window) (now out) ⌝ }
-    ensures { λ done. ⌜ Came (trayOf heldAtStart (now (places .entry)) (now (ram .entry)))
-        (trayOf (done .tray) (now (places .exit)) (now (ram .exit)))
-        (done .whole) ⌝ }
-{
-    let mut tray = Tray::at_start();
-    let mut pump = Pump {
-        have: 0,
-        ended: false,
-        over: false,
-        whole: false,
-    };
-    let mut turns = u64::MAX;
-    while turns > 0 {
-        if pump.over {
-            return Done {
-                tray: tray,
-                whole: pump.whole,
-            };
-        }
-        let have = pump.have;
-        let passed = tray::run_window(tray, places, ram, &window[0..have], out, pump.ended);
-        tray = passed.tray;
-        let stop = passed.stop;
-        pump = pump.settle(window, out, passed.at, passed.put, stop);
-        turns -= 1;
-    }
-    Done {
-        tray: tray,
-        whole: pump.whole,
-    }
-}
-
-// Runs the recording on standard input over the lent memory, which starts zero, whatever it held.
-pub fn run_input(places: &mut [u16; 256], ram: &mut [u16; 16384]) -> Done
-    ensures { λ done. ⌜ Came trayAtStart
-        (trayOf (done .tray) (now (places .exit)) (now (ram .exit)))
-        (done .whole) ⌝ }
-{
-    *places = [0; 256];
-    *ram = [0; 16384];
-    let mut window = io::large_buffer();
-    let mut out = io::large_buffer();
-    run_pieces(places, ram, &mut window, &mut out)
 }

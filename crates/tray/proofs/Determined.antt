@@ -3,15 +3,12 @@
 -- Assumes nothing.
 use denote.Ref.{now}
 use Rattle.rules.proofs.Determined.{Determined, DeterminedAs, same}
-use Rattle.lines.specs.Written.{Put, put}
 use Rattle.tray.specs.AsCoded.Window.{Passed}
 use Rattle.tray.specs.AsCoded.Held.{passedOf}
 use Rattle.tray.proofs.run.Tray.at_start.Kinds as at-start-kinds
 use Rattle.tray.proofs.run.Tray.at_start.Reads as at-start-reads
 use Rattle.tray.proofs.window.run_window.Kinds as run-window-kinds
 use Rattle.tray.proofs.window.run_window.Reads as run-window-reads
-use Rattle.tray.proofs.rest.keep_rest.Kinds as keep-rest-kinds
-use Rattle.tray.proofs.rest.keep_rest.Reads as keep-rest-reads
 
 pub at-start : Determined 0 at-start-kinds.ps at-start-kinds.r at-start-reads.Post
 at-start κs arguments result result′ exit exit′ = same
@@ -21,8 +18,3 @@ pub run-window :
     (λ κs result exit. passedOf result (now (exit .1 .0)) (now (exit .1 .1 .0))
     (now (exit .1 .1 .1 .1 .0)))
 run-window κs arguments result result′ exit exit′ = same
-
-pub keep-rest :
-    DeterminedAs 1 keep-rest-kinds.ps keep-rest-kinds.r keep-rest-reads.Post Put
-    (λ κs result exit. put result (now (exit .0)))
-keep-rest κs arguments result result′ exit exit′ = same

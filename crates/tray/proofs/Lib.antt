@@ -1,12 +1,11 @@
 -- The mathematics of a tray run, as the code makes it. What holds of every run is in `tray_laws`.
 --     HappenLaws    what a field tells comes about: a law for each kind of field
---     LineLaws      the line of an answer, and the last line
+--     LineLaws      the line of an answer
 --     TurnLaws      one field of a window, as the code takes it
 --     RowLaws       a row of data words, as the code takes it
 --     WordTurns     the data words that are found are as many turns
 --     RowTurns      a row of data words, taken at once, is as many turns
 --     LoopLaws      field after field
---     KeepLaws      what is left of a window moves to its front
 --     Determined    each public contract allows one outcome alone
 pub mod HappenLaws
 pub mod LineLaws
@@ -15,5 +14,4 @@ pub mod RowLaws
 pub mod WordTurns
 pub mod RowTurns
 pub mod LoopLaws
-pub mod KeepLaws
 pub mod Determined

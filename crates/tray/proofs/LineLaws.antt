@@ -1,14 +1,12 @@
--- The laws of the lines in `specs/Run.antt`: what each answer prints, and the last line. Assumes
--- nothing.
+-- The laws of the lines in `specs/Run.antt`: what each answer prints. Assumes nothing.
 use mathlib.Core.Path.{_≡_, refl}
 use mathlib.Core.Bool.{Bool, true, false, cond}
 use mathlib.Core.List.{List, [], _∷_}
-use Prim.Native.Nat.{ℕ, _+_, _-_, _≤_}
-use native.Mathlib.Decide.{decLe}
+use Prim.Native.Nat.{ℕ, _≤_}
 use native.Mathlib.Omega.{arith}
 use lib.Dec.{eqb}
 use lib.ListN.{length, take, drop, length-take}
-use borrow.Author.Tests.{eqb-true, ne-eqb}
+use borrow.Author.Tests.{eqb-true}
 use Rattle.card.specs.declared.place.Block.{Block}
 use Rattle.card.specs.Memory.{dataCells, cardBlocks, theCell, wordAddress}
 use Rattle.card.specs.Part.{shownPart}
@@ -18,21 +16,11 @@ use Rattle.terminal.specs.declared.state.Answer.{Answer}
 use Rattle.terminal.specs.declared.state.Answer.the-variants.{Replied, QueueWord}
 use Rattle.terminal.specs.declared.state.Reply.{Reply}
 use Rattle.terminal.specs.declared.state.Reply.the-variants.{Silent, Status, Words, Last}
-use Rattle.lines.specs.Lines.{queueLine, endLine, refusalLine}
-use Rattle.lines.specs.Written.{Put, put, stored, lineRoom, mostWords, lineWritten, statusWritten}
-use Rattle.lines.proofs.WrittenLaws.{in-room, out-of-room, few-words}
-use Rattle.tray.specs.Run.{replyLine, answerLine, lastLine}
-
--- nothing is written of no text
-pub nothing-written : (out : List ℕ) (at : ℕ) → put at out ≡ lineWritten out at []
-unfolding stored
-nothing-written out at =
-    elim (decLe lineRoom (length out - at)) [
-      | yes enough ↦
-          let same : at + 0 ≡ at = omega arith in
-          rw (in-room lineRoom out at [] enough, same)
-      | no short ↦ rw (out-of-room lineRoom out at [] (omega arith))
-    ]
+use Rattle.lines.specs.Lines.{queueLine}
+use Rattle.lines.specs.Written.{Put, put, mostWords, lineWritten, statusWritten}
+use Rattle.lines.proofs.WrittenLaws.{few-words}
+use Rattle.pieces.proofs.LineLaws.{nothing-written}
+use Rattle.tray.specs.Run.{replyLine, answerLine}
 
 -- ---- the line of a reply
 
@@ -95,19 +83,3 @@ module _ (out : List ℕ) (at : ℕ) (ram : List ℕ) (answer : Answer) (next : 
   queue-line word is is-put = rw is is-put
 
 pub ruleset answer-lines = (replied-line, queue-line)
-
--- ---- the last line
-
-module _ (out : List ℕ) (at number fields offset next : ℕ) (after : List ℕ) where
-  pub end-line : number ≡ 0 → put next after ≡ lineWritten out at (endLine fields)
-      → put next after ≡ lineWritten out at (lastLine number fields offset)
-  unfolding lastLine
-  end-line is is-put = rw is is-put
-
-  pub refusal-line : (number ≡ 0 → ⊥)
-      → put next after ≡ lineWritten out at (refusalLine number offset)
-      → put next after ≡ lineWritten out at (lastLine number fields offset)
-  unfolding lastLine
-  refusal-line is is-put = rw (ne-eqb number 0 is) is-put
-
-pub ruleset last-lines = (end-line, refusal-line)

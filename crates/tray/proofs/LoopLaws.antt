@@ -7,19 +7,21 @@ use Prim.Native.Nat.{ℕ, zero, suc, _-_, _≤_, _<_}
 use native.Mathlib.Omega.{arith}
 use lib.ListN.{length}
 use borrow.Author.Tests.{not-true, not-false}
+use Rattle.pieces.specs.declared.stop.Stop.the-variants.{Going}
+use Rattle.pieces.specs.AsCoded.Window as pieces
+use Rattle.pieces.proofs.StopLaws.{going-is}
+use Rattle.pieces.proofs.TurnLaws.{one-turn}
 use Rattle.tray.specs.declared.window.Passed.{Passed as HeldPassed}
-use Rattle.tray.specs.declared.window.Stop.the-variants.{Going}
-use Rattle.tray.specs.AsCoded.Window.{Passed, isGoing, turn, turns}
+use Rattle.tray.specs.Run.{trayCourse}
+use Rattle.tray.specs.AsCoded.Window.{Passed, turn, turns}
 use Rattle.tray.specs.AsCoded.Held.{passedOf}
 use Rattle.tray.specs.AsCoded.Row.{RowTaken}
-use Rattle.tray.proofs.TurnLaws.{going-is}
-use Rattle.tray.proofs.WordTurns.{one-turn}
 use Rattle.tray.proofs.RowTurns.{turn-left, fewer-left}
 
 pub record Leads (window : List ℕ) (last : Bool) (start : Passed) (most : ℕ) (old : Passed)
     (left : ℕ) : Type 0 where
   pub leads : turns left window last old ≡ turns most window last start
-  pub ram-as-long : length (old .tray .card .ram) ≡ length (start .tray .card .ram)
+  pub ram-as-long : length (old .run .card .ram) ≡ length (start .run .card .ram)
   pub out-as-long : length (old .out) ≡ length (start .out)
 
 module _ (window : List ℕ) (last : Bool) (start : Passed) (most : ℕ) where
@@ -29,9 +31,9 @@ module _ (window : List ℕ) (last : Bool) (start : Passed) (most : ℕ) where
   module _ (old : Passed) where
     -- it has stopped
     pub leads-stopped : (left : ℕ) (going : Bool) → Leads window last start most old left
-        → going ≡ isGoing (old .stop) → not going ≡ true
+        → going ≡ pieces.isGoing (old .stop) → not going ≡ true
         → old ≡ turns most window last start
-    unfolding turns
+    unfolding pieces.turns
     leads-stopped zero going so-far is-going stops = so-far .leads
     leads-stopped (suc left) going so-far is-going stops =
         rw (← is-going, not-true going stops) at (so-far .leads)
@@ -39,7 +41,7 @@ module _ (window : List ℕ) (last : Bool) (start : Passed) (most : ℕ) where
     -- no turn is left
     pub leads-done : (left : ℕ) → Leads window last start most old left → left ≤ 0
         → old ≡ turns most window last start
-    unfolding turns
+    unfolding pieces.turns
     leads-done zero so-far none = so-far .leads
     leads-done (suc left) so-far none = absurd (omega (arith, none))
 
@@ -47,12 +49,12 @@ module _ (window : List ℕ) (last : Bool) (start : Passed) (most : ℕ) where
   module _ (old next : HeldPassed) (places ram out ram′ : List ℕ) (room left left′ : ℕ) where
     pub leads-on : (going : Bool) (new : Passed)
         → Leads window last start most (passedOf old places ram out) left
-        → 0 < left → going ≡ isGoing (old .stop) → not going ≡ false
+        → 0 < left → going ≡ pieces.isGoing (old .stop) → not going ≡ false
         → room ≡ length out - old .put
         → RowTaken window room left old ram left′ next ram′
         → new ≡ turn window last (passedOf next places ram′ out)
         → length ram′ ≡ length ram
-        → length (new .tray .card .ram) ≡ length ram′
+        → length (new .run .card .ram) ≡ length ram′
         → length (new .out) ≡ length out
         → Leads window last start most new (left′ - 1)
     leads-on going new so-far some is-going goes is-room row is-new row-long ram-long out-long =
@@ -61,7 +63,7 @@ module _ (window : List ℕ) (last : Bool) (start : Passed) (most : ℕ) where
         let one : suc (left′ - 1) ≡ left′ = omega (arith, row .some-left some) in
         record {
           leads =
-              one-turn window last (left′ - 1) (passedOf next places ram′ out) new
+              one-turn trayCourse window last (left′ - 1) (passedOf next places ram′ out) new
               (row .going ∙ is) (sym is-new)
               ∙ ap (λ (any : ℕ). turns any window last (passedOf next places ram′ out)) one
               ∙ row .leads last places out is-room is

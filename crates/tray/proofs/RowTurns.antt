@@ -23,10 +23,10 @@ use Rattle.terminal.specs.Machine.{run}
 use Rattle.terminal.proofs.RowWords.{row-is-words}
 use Rattle.recording.specs.declared.seen.Seen.{Seen}
 use Rattle.lines.specs.Written.{lineRoom, mostWords}
+use Rattle.pieces.specs.declared.stop.Stop.the-variants.{Going}
+use Rattle.pieces.specs.LastLine.{counted}
 use Rattle.tray.specs.declared.row.Reach.{Reach}
 use Rattle.tray.specs.declared.window.Passed.{Passed as HeldPassed}
-use Rattle.tray.specs.declared.window.Stop.the-variants.{Going}
-use Rattle.tray.specs.Run.{counted}
 use Rattle.tray.specs.AsCoded.Window.{turns}
 use Rattle.tray.specs.AsCoded.Held.{passedOf}
 use Rattle.tray.specs.AsCoded.Row.{

@@ -1,13 +1,12 @@
 -- The laws of `specs/AsCoded/Window.antt`, as the code takes one field of a window. Assumes
 -- nothing.
-use mathlib.Core.Path.{_≡_, refl, sym, ap, _∙_}
-use mathlib.Core.Bool.{Bool, true}
+use mathlib.Core.Path.{_≡_, sym, ap, _∙_}
+use mathlib.Core.Bool.{Bool}
 use mathlib.Core.List.{List}
 use Prim.Native.Nat.{ℕ, _+_, _-_, _≤_, _<_, _%_, _^_}
 use native.Mathlib.Omega.{arith}
 use lib.ListN.{length}
 use borrow.Author.Tests.{lt-ltb, le-ltb}
-use Rattle.rules.proofs.Clash.{clash}
 use Rattle.terminal.specs.Event.{shown}
 use Rattle.terminal.specs.State.{cardOf}
 use Rattle.recording.specs.declared.field.Field.{Field}
@@ -21,23 +20,16 @@ use Rattle.recording.specs.Value.{valuedAt}
 use Rattle.recording.proofs.TakenLaws.{taken-within}
 use Rattle.recording.proofs.InOrder.{taken-in-order}
 use Rattle.recording.proofs.TakenWords.{taken-words-there}
-use Rattle.lines.specs.Written.{Put, put, lineRoom, lineWritten}
+use Rattle.lines.specs.Written.{put, lineRoom, lineWritten}
+use Rattle.pieces.specs.declared.stop.Stop.{Stop}
+use Rattle.pieces.specs.declared.stop.Stop.the-variants.{Going, Full}
+use Rattle.pieces.specs.AsCoded.Window as pieces
 use Rattle.tray.specs.declared.field.Shown.{Shown as HeldShown}
 use Rattle.tray.specs.declared.window.Passed.{Passed as HeldPassed}
-use Rattle.tray.specs.declared.window.Stop.{Stop}
-use Rattle.tray.specs.declared.window.Stop.the-variants.{Going, Hungry, Full, Over}
 use Rattle.tray.specs.Happening.{happeningOf, happened}
-use Rattle.tray.specs.Run.{answerLine, taking, takingLine}
-use Rattle.tray.specs.AsCoded.Window.{
-  Passed,
-  stopped,
-  stoppedAt,
-  takes,
-  passing,
-  turn,
-  isGoing,
-}
-use Rattle.tray.specs.AsCoded.Held.{passedOf, WordsThere, WasRead}
+use Rattle.tray.specs.Run.{answerLine, taking, takingLine, metBy, trayCourse}
+use Rattle.tray.specs.AsCoded.Window.{Passed, takes, turn}
+use Rattle.tray.specs.AsCoded.Held.{trayOf, passedOf, WordsThere, WasRead}
 
 -- ---- a field that is taken
 
@@ -109,47 +101,37 @@ module _ (ran : HeldPassed) (places ram out window : List ℕ) (last : Bool) (ro
   pub turn-full : (left : HeldPassed) → room < lineRoom
       → left ≡ record { tray = ran .tray; at = ran .at; put = ran .put; stop = Full }
       → passedOf left places ram out ≡ turn window last before
-  unfolding turn
+  unfolding pieces.turn
   turn-full left short is-left =
       rw (is-left, lt-ltb (length out - ran .put) lineRoom (rw is-room at short))
 
   module _ (reading : Reading) (enough : lineRoom ≤ room)
       (is-reading : reading ≡ readAt window (ran .at) (ran .tray .seen)) where
-    turn-by : passing reading window last before ≡ turn window last before
-    unfolding turn
+    turn-by : pieces.passing trayCourse
+        (metBy reading window (ran .at) (trayOf (ran .tray) places ram)) last before
+        ≡ turn window last before
+    unfolding pieces.turn trayCourse
     turn-by = rw (is-reading, le-ltb (length out - ran .put) lineRoom (rw is-room at enough))
 
     pub turn-takes : (told : Field) (next : ℕ) (new : Passed) → reading ≡ Taken told next
         → new ≡ takes window told next before → new ≡ turn window last before
-    unfolding passing
+    unfolding pieces.passing metBy takes
     turn-takes told next new is is-new = rw (← turn-by, is) is-new
 
     module _ (left : HeldPassed) (put′ : ℕ) (stop : Stop) (out′ : List ℕ)
         (is-left : left ≡ record { tray = ran .tray; at = ran .at; put = put′; stop = stop }) where
       pub turn-ends : reading ≡ End
-          → stopped (put put′ out′) stop
-          ≡ stoppedAt 0 last (ran .tray .fields) (ran .tray .offset) out (ran .put)
+          → pieces.stopped (put put′ out′) stop
+          ≡ pieces.stoppedAt 0 last (ran .tray .fields) (ran .tray .offset) out (ran .put)
           → passedOf left places ram out′ ≡ turn window last before
-      unfolding passing
+      unfolding pieces.passing metBy trayCourse
       turn-ends is is-stopped = rw (← turn-by, is, is-left, ← is-stopped)
 
       pub turn-refuses : (number place : ℕ) → reading ≡ Refused number place
-          → stopped (put put′ out′) stop
-          ≡ stoppedAt number last (ran .tray .fields) (ran .tray .offset) out (ran .put)
+          → pieces.stopped (put put′ out′) stop
+          ≡ pieces.stoppedAt number last (ran .tray .fields) (ran .tray .offset) out (ran .put)
           → passedOf left places ram out′ ≡ turn window last before
-      unfolding passing
+      unfolding pieces.passing metBy trayCourse
       turn-refuses number place is is-stopped = rw (← turn-by, is, is-left, ← is-stopped)
 
 pub ruleset turning = (turn-full, turn-takes, turn-ends, turn-refuses)
-
--- a last line that is printed
-pub over-line : {line line′ : Put} → line ≡ line′ → stopped line Over ≡ stopped line′ Over
-over-line is = ap (λ (left : Put). stopped left Over) is
-
--- ---- a call that has not stopped
-
-pub going-is : (stop : Stop) → isGoing stop ≡ true → stop ≡ Going
-going-is Going is = refl
-going-is Hungry is = absurd (clash (cc))
-going-is Full is = absurd (clash (cc))
-going-is Over is = absurd (clash (cc))

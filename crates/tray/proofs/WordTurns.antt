@@ -24,13 +24,16 @@ use Rattle.recording.specs.Value.{valuedAt}
 use Rattle.recording.specs.Seen.{setupSeen}
 use Rattle.recording.proofs.FoundLaws.{found-is-read, found-moves-on}
 use Rattle.lines.specs.Written.{lineRoom}
-use Rattle.tray.specs.declared.window.Stop.{Stop}
-use Rattle.tray.specs.declared.window.Stop.the-variants.{Going}
+use Rattle.pieces.specs.declared.stop.Stop.{Stop}
+use Rattle.pieces.specs.declared.stop.Stop.the-variants.{Going}
+use Rattle.pieces.specs.LastLine.{counted}
+use Rattle.pieces.specs.AsCoded.Window as pieces
+use Rattle.pieces.proofs.LineLaws.{nothing-written}
+use Rattle.pieces.proofs.TurnLaws.{one-turn}
 use Rattle.tray.specs.Happening.{happeningOf, happened}
-use Rattle.tray.specs.Run.{counted, taking, takingLine}
-use Rattle.tray.specs.AsCoded.Window.{Passed, takes, passing, turn, turns}
+use Rattle.tray.specs.Run.{taking, takingLine, metBy, trayCourse}
+use Rattle.tray.specs.AsCoded.Window.{Passed, turn, turns}
 use Rattle.tray.specs.AsCoded.Row.{marksOn, foundThen, wordsFound}
-use Rattle.tray.proofs.LineLaws.{nothing-written}
 
 -- ---- the words that are found
 
@@ -75,11 +78,6 @@ module _ (window : List ℕ) (line : Bool) where
 
 -- ---- a word is a turn
 
-pub one-turn : (window : List ℕ) (last : Bool) (left : ℕ) (old new : Passed) → old .stop ≡ Going
-    → turn window last old ≡ new → turns left window last new ≡ turns (suc left) window last old
-unfolding turns
-one-turn window last left old new going is = rw (is, going)
-
 module _ (window out : List ℕ) (last line : Bool) (seen : Seen) (put : ℕ) (stop : Stop)
     (after-setup : seen .setup ≡ true) (is-going : stop ≡ Going)
     (enough : lineRoom ≤ length out - put) where
@@ -87,7 +85,7 @@ module _ (window out : List ℕ) (last line : Bool) (seen : Seen) (put : ℕ) (s
   abbrev pub among : ℕ → Card → ℕ → ℕ → Passed
   among at old fields offset =
       record {
-        tray = record { seen = seen; card = old; fields = fields; offset = offset };
+        run = record { seen = seen; card = old; fields = fields; offset = offset };
         at = at;
         put = put;
         out = out;
@@ -99,7 +97,8 @@ module _ (window out : List ℕ) (last line : Bool) (seen : Seen) (put : ℕ) (s
       → turn window last (among at old fields offset)
       ≡ among next (step (word (wordOf (marksOn line) value (timeAt window (at + 6)))) old .card)
       (counted (fields + 1)) (counted (offset + 10))
-  unfolding turn passing takes taking takingLine happened happeningOf valuedAt step
+  unfolding pieces.turn pieces.passing trayCourse metBy taking takingLine happened happeningOf
+      valuedAt step
   word-is-turn at old fields offset value next is =
       let ten : next - at ≡ 10 = omega (arith, found-next window line at value next is) in
       rw (
@@ -166,6 +165,6 @@ module _ (window out : List ℕ) (last line : Bool) (seen : Seen) (put : ℕ) (s
           rw (same-at, same-fields, same-offset, same-left)
           (shorter next new (counted (fields + 1)) (counted (offset + 10)) (omega arith)
           (omega arith)
-          ∙ one-turn window last (length rest + left) (among at old fields offset)
+          ∙ one-turn trayCourse window last (length rest + left) (among at old fields offset)
           (among next new (counted (fields + 1)) (counted (offset + 10)))
           is-going (word-is-turn at old fields offset value next is))

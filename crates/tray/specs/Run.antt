@@ -1,10 +1,8 @@
 -- A tray run: the fields of a recording one by one over the terminal, and the lines that are
 -- printed. Definitions only. Assumes nothing.
-use mathlib.Core.Bool.{cond}
-use mathlib.Core.List.{List, [], _∷_, _++_}
-use Prim.Native.Nat.{ℕ, zero, suc, _+_, _%_, _^_}
-use lib.Dec.{eqb}
-use lib.ListN.{length, drop, replicate}
+use mathlib.Core.List.{List, [], _∷_}
+use Prim.Native.Nat.{ℕ, _+_, _-_}
+use lib.ListN.{replicate}
 use Rattle.bus.specs.Limits.{allStations}
 use Rattle.card.specs.Memory.{cardWords, theBlock}
 use Rattle.queue.specs.Queue.{emptyQueue}
@@ -21,7 +19,10 @@ use Rattle.recording.specs.declared.reading.Reading.the-variants.{Taken, End, R
 use Rattle.recording.specs.Seen.{nothingSeen, seenAfter}
 use Rattle.recording.specs.Reading.{readAt}
 use Rattle.recording.specs.Value.{valuedAt}
-use Rattle.lines.specs.Lines.{statusLine, queueLine, endLine, refusalLine}
+use Rattle.lines.specs.Lines.{statusLine, queueLine}
+use Rattle.pieces.specs.LastLine.{counted}
+use Rattle.pieces.specs.Course.{Met, taken, atEnd, refused, Course}
+use Rattle.pieces.specs.Whole as pieces
 use Rattle.tray.specs.Happening.{happeningOf, happened}
 
 -- how far a run has come: what the reader has seen, the terminal and the card memory, how many
@@ -47,10 +48,6 @@ unfoldable pub trayAtStart : Tray
 unfolding trayOver
 trayAtStart = trayOver (replicate cardWords 0)
 
--- counts and offsets have 64 bits
-abbrev pub counted : ℕ → ℕ
-counted number = number % 2 ^ 64
-
 -- ---- lines
 
 -- the line of a reply's values: nothing of none; else of the status and the words sent
@@ -71,12 +68,6 @@ answerLine ram (QueueWord word) = queueLine word
 abbrev pub shownLine : Shown → List ℕ
 shownLine new = answerLine (new .card .ram) (new .answer)
 
--- the last line: END with the fields taken, or the number of the refusal with the offset of its
--- field; number 0 is no refusal
-unfoldable pub lastLine : ℕ → ℕ → ℕ → List ℕ
-lastLine number fields offset =
-    cond (eqb number 0) (endLine fields) (refusalLine number offset)
-
 -- ---- the run
 
 -- a field of these bytes is taken, and the next begins so many bytes further on
@@ -93,36 +84,30 @@ taking bytes field size old =
 unfoldable pub takingLine : List ℕ → Field → Tray → List ℕ
 takingLine bytes field old = shownLine (happened (happeningOf (valuedAt bytes field)) (old .card))
 
+-- what a reading at a place is to the run: a field that is taken, the end, or a refusal
+unfoldable pub metBy : Reading → List ℕ → ℕ → Tray → Met Tray
+metBy (Taken field next) bytes at old =
+    taken next (takingLine bytes field old) (taking bytes field (next - at) old)
+metBy End bytes at old = atEnd
+metBy (Refused number place) bytes at old = refused number
+
+-- the course of a tray run: the reader goes by what it has seen
+unfoldable pub trayCourse : Course Tray
+trayCourse =
+    record {
+      fields = λ old. old .fields;
+      offset = λ old. old .offset;
+      meets = λ old bytes at. metBy (readAt bytes at (old .seen)) bytes at old;
+    }
+
 -- what a run makes of the bytes of a recording: the text that it prints, and how far it has come
 -- then
-pub record Whole : Type 0 where
-  pub text : List ℕ
-  pub tray : Tray
+abbrev pub Whole : Type 0
+Whole = pieces.Whole Tray
 
-abbrev pub whole : List ℕ → Tray → Whole
-whole text tray = record { text = text; tray = tray }
-
--- a line printed before the rest
-abbrev pub withLine : List ℕ → Whole → Whole
-withLine line rest = whole (line ++ rest .text) (rest .tray)
-
--- from a reading on: a field that is taken prints its line, and then comes what `rest` makes of the
--- bytes behind it; else the last line is printed
-unfoldable pub wholeOf : Reading → (Tray → List ℕ → Whole) → Tray → List ℕ → Whole
-wholeOf (Taken field next) rest old bytes =
-    withLine (takingLine bytes field old) (rest (taking bytes field next old) (drop next bytes))
-wholeOf End rest old bytes = whole (lastLine 0 (old .fields) (old .offset)) old
-wholeOf (Refused number place) rest old bytes =
-    whole (lastLine number (old .fields) (old .offset)) old
-
--- in so many fields at the most
-unfoldable pub wholeBy : ℕ → Tray → List ℕ → Whole
-wholeBy zero old bytes = whole [] old
-wholeBy (suc fields) old bytes = wholeOf (readAt bytes 0 (old .seen)) (wholeBy fields) old bytes
-
--- of the bytes that are left; they hold fewer fields than bytes
-unfoldable pub wholeFrom : Tray → List ℕ → Whole
-wholeFrom old bytes = wholeBy (suc (length bytes)) old bytes
+-- of the bytes that are left, field by field
+abbrev pub wholeFrom : Tray → List ℕ → Whole
+wholeFrom old bytes = pieces.wholeFrom trayCourse old bytes
 
 -- what the program prints of a recording
 unfoldable pub printed : List ℕ → List ℕ

@@ -1,7 +1,7 @@
 // The lines that a run prints, into the buffer that it is lent.
 ghost use mathlib.Core.Path.{_≡_};
 ghost use Rattle.lines.specs.Written.{put, lineWritten};
-ghost use Rattle.tray.specs.Run.{replyLine, answerLine, lastLine};
+ghost use Rattle.tray.specs.Run.{replyLine, answerLine};
 use card::place::CARD_BLOCKS;
 use card::sent;
 use lines;
@@ -37,15 +37,4 @@ pub(crate) fn put_answer(out: &mut [u8], at: usize, ram: &[u16], answer: Answer)
         Answer::Replied(reply) => put_reply(out, at, ram, reply),
         Answer::QueueWord(word) => lines::queue_line(out, at, word),
     }
-}
-
-// END with the fields taken, or the number of the refusal with the offset of its field.
-pub(crate) fn put_last(out: &mut [u8], at: usize, number: u8, fields: u64, offset: u64) -> usize
-    ensures { λ next. ⌜ put next (now (out .exit))
-        ≡ lineWritten (now (out .entry)) at (lastLine number fields offset) ⌝ }
-{
-    if number == 0 {
-        return lines::end_line(out, at, fields);
-    }
-    lines::refusal_line(out, at, number, offset)
 }

@@ -1,32 +1,18 @@
 // A call over a window of the recording: every whole field of it, and their lines in the buffer.
 ghost use mathlib.Core.Path.{_≡_};
-ghost use Rattle.lines.specs.Written.{put};
-ghost use Rattle.tray.specs.AsCoded.Window.{
-  isGoing,
-  stopped,
-  stoppedAt,
-  takes,
-  turn,
-  windowRun,
-};
+ghost use Rattle.tray.specs.AsCoded.Window.{takes, turn, windowRun};
 ghost use Rattle.tray.specs.AsCoded.Held.{trayOf, passedOf, WasRead};
 use crate::field;
 use crate::print;
 use crate::row;
 use crate::run::Tray;
 use lines;
+use pieces;
+use pieces::Stop;
 use recording;
 use recording::Field;
 use recording::Reading;
 use std::num;
-
-// Why a call stopped: it has not, it needs more bytes, its buffer is full, or the run is over.
-pub enum Stop {
-    Going,
-    Hungry,
-    Full,
-    Over,
-}
 
 // What a call leaves: the run, the place in the window, and how many bytes of lines there are.
 pub struct Passed {
@@ -34,25 +20,6 @@ pub struct Passed {
     pub at: usize,
     pub put: usize,
     pub stop: Stop,
-}
-
-// What a last line leaves: how many bytes of lines there are, and why the call stops.
-struct Stopped {
-    put: usize,
-    stop: Stop,
-}
-
-impl Stop {
-    fn is_going(self) -> bool
-        ensures { λ going. ⌜ going ≡ isGoing self ⌝ }
-    {
-        match self {
-            Stop::Going => true,
-            Stop::Hungry => false,
-            Stop::Full => false,
-            Stop::Over => false,
-        }
-    }
 }
 
 impl Passed {
@@ -110,26 +77,6 @@ fn take_field(
     }
 }
 
-// No field is taken, by the number of a refusal or 0 for the end of the bytes: more bytes are
-// needed or, where these are the last, the last line is printed.
-fn stop_at(out: &mut [u8], at: usize, number: u8, last: bool, fields: u64, offset: u64) -> Stopped
-    ensures { λ end. ⌜ stopped (put (end .put) (now (out .exit))) (end .stop)
-        ≡ stoppedAt number last fields offset (now (out .entry)) at ⌝ }
-{
-    let hungry = !last & ((number == 0) | (number == 5));
-    if hungry {
-        return Stopped {
-            put: at,
-            stop: Stop::Hungry,
-        };
-    }
-    let next = print::put_last(out, at, number, fields, offset);
-    Stopped {
-        put: next,
-        stop: Stop::Over,
-    }
-}
-
 // One field, if there is room for its line.
 fn turn(
     passed: Passed,
@@ -155,12 +102,12 @@ fn turn(
             take_field(passed, places, ram, window, out, field, next)
         }
         Reading::End => {
-            let end = stop_at(out, passed.put, 0, last, tray.fields, tray.offset);
+            let end = pieces::stop_at(out, passed.put, 0, last, tray.fields, tray.offset);
             let stop = end.stop;
             passed.with_stop(end.put, stop)
         }
         Reading::Refused { number, place: _ } => {
-            let end = stop_at(out, passed.put, number, last, tray.fields, tray.offset);
+            let end = pieces::stop_at(out, passed.put, number, last, tray.fields, tray.offset);
             let stop = end.stop;
             passed.with_stop(end.put, stop)
         }

@@ -7,8 +7,8 @@ mod text;
 
 use io;
 use libc::STDOUT_FILENO;
-use stream;
 use tray::Tray;
+use tray_stream;
 
 // State and cells, in one write. There is room for both (`nothing-is-cut`): with 256 blocks that
 // wait, the state takes some 1,300 bytes, and 16,384 cells take 163,840, at 10 bytes a line.
@@ -25,7 +25,7 @@ fn print_left(tray: Tray, places: &[u16; 256], ram: &[u16; 16384]) {
 fn main() {
     let mut places: [u16; 256] = [0; 256];
     let mut ram: [u16; 16384] = [0; 16384];
-    let done = stream::run_input(&mut places, &mut ram);
+    let done = tray_stream::run_input(&mut places, &mut ram);
     // of a run that broke off, by a read or a write that failed, nothing more is printed
     if !done.whole {
         return;

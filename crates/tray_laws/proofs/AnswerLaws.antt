@@ -19,7 +19,8 @@ use Rattle.recording.proofs.AcceptedLaws.{isTaken, takes-once}
 use Rattle.recording.proofs.CutLaws.{taken-accepted}
 use Rattle.lines.specs.Lines.{endLine, refusalLine}
 use Rattle.tray.specs.Happening.{happenings}
-use Rattle.tray.specs.Run.{Tray, Whole, whole}
+use Rattle.pieces.specs.Whole.{whole}
+use Rattle.tray.specs.Run.{Tray, Whole}
 use Rattle.tray_laws.specs.Answered.{
   toldLines,
   trayAfter,
@@ -112,7 +113,7 @@ answer-and-end start bytes =
           goes-on (reached .takes) start refl (length front)
           (sym (ap length (accepted .parts) ∙ length-append front left))
           ∙ ap (λ (rest : Whole). whole (toldLines (happenings fields) (start .card) ++ rest .text)
-          (rest .tray))
+          (rest .run))
           (ends-at after left
           (ap (λ (seen : Seen). readAt left 0 seen) (tray-seen start (length front) fields))
           (last .last));

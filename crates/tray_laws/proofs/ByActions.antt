@@ -2,7 +2,7 @@
 -- is what the library's actions make, `run-by-actions`, and they make nothing else,
 -- `actions-make-the-run`. So no field that is taken meets a refusal of its action, and one that is
 -- refused for what it holds meets the same. Assumes nothing.
-use mathlib.Core.Path.{_≡_, refl, sym, ap, _∙_}
+use mathlib.Core.Path.{_≡_, refl, sym, ap, subst, _∙_}
 use mathlib.Core.Bool.{Bool, true, false}
 use mathlib.Core.List.{List}
 use Prim.Native.Nat.{ℕ, zero, suc, _+_, _<_}
@@ -50,6 +50,7 @@ use Rattle.recording.specs.Value.{valuedAt}
 use Rattle.recording.proofs.WordsLaws.{length-words-at}
 use Rattle.recording.proofs.TakenLaws.{taken-within}
 use Rattle.recording.proofs.InOrder.{InOrder, WriteInOrder, taken-in-order}
+use Rattle.pieces.specs.Whole as pieces
 use Rattle.tray.specs.Happening.{happeningOf, happened}
 use Rattle.tray.specs.Run.{
   Tray,
@@ -57,15 +58,13 @@ use Rattle.tray.specs.Run.{
   shownLine,
   taking,
   takingLine,
+  trayCourse,
   Whole,
-  withLine,
-  wholeOf,
-  wholeBy,
   wholeFrom,
 }
 use Rattle.tray_laws.specs.Sound.{SoundTray}
 use Rattle.tray_laws.specs.ByActions.{actionOf, trayWith, ByActions, acts, ends, refuses}
-use Rattle.tray_laws.proofs.PrintedLaws.{whole-by-reading}
+use Rattle.tray_laws.proofs.PrintedLaws.{wholeOf, whole-of-met, whole-by-reading}
 use Rattle.tray_laws.proofs.SoundLaws.{start-is-sound, sound-before, taking-is-sound}
 use Rattle.tray_laws.proofs.RefusedAlike.{refused-alike}
 
@@ -150,16 +149,19 @@ by-reading rest old bytes (Refused number place) sound then is =
     refuses sound is (refused-alike bytes old sound is)
 
 by-turns : (most : ℕ) (old : Tray) (bytes : List ℕ) → length bytes < most
-    → SoundTray old → ByActions old bytes (wholeBy most old bytes)
-unfolding wholeBy
+    → SoundTray old → ByActions old bytes (pieces.wholeBy trayCourse most old bytes)
+unfolding pieces.wholeBy trayCourse
 by-turns zero old bytes few sound = absurd (omega (arith, few))
 by-turns (suc most) old bytes few sound =
-    by-reading (wholeBy most) old bytes (readAt bytes 0 (old .seen)) sound
-    (λ new behind fewer. by-turns most new behind (omega (arith, few, fewer))) refl
+    let reading = readAt bytes 0 (old .seen) in
+    let rest = pieces.wholeBy trayCourse most in
+    subst (ByActions old bytes) (sym (whole-of-met reading rest old bytes))
+    (by-reading rest old bytes reading sound
+    (λ new behind fewer. by-turns most new behind (omega (arith, few, fewer))) refl)
 
 pub run-by-actions : (ram bytes : List ℕ) → length ram ≡ cardWords
     → ByActions (trayOver ram) bytes (wholeFrom (trayOver ram) bytes)
-unfolding wholeFrom
+unfolding pieces.wholeFrom
 run-by-actions ram bytes long =
     by-turns (suc (length bytes)) (trayOver ram) bytes (omega arith) (start-is-sound ram long)
 
@@ -173,8 +175,8 @@ actions-make-the-run {old} {bytes}
     let same : shown new answer ≡ happened (happeningOf (valuedAt bytes field)) (old .card) =
     ap (λ (left : After). shown (left .card) (left .answer))
     (sym taken ∙ field-by-action bytes 0 old is sound) in
-    ap (withLine (shownLine (shown new answer))) (actions-make-the-run more)
-    ∙ ap (λ (left : Shown). withLine (shownLine left)
+    ap (pieces.withLine (shownLine (shown new answer))) (actions-make-the-run more)
+    ∙ ap (λ (left : Shown). pieces.withLine (shownLine left)
     (wholeFrom (trayWith field (left .card) next old) (drop next bytes))) same
     ∙ sym (whole-by-reading old bytes (Taken field next) is)
 actions-make-the-run {old} {bytes} (ends sound is) = sym (whole-by-reading old bytes End is)

@@ -1,5 +1,8 @@
 -- What holds of every recording and of every run of one. Read `Theorems`: what is proved.
 --     Theorems      the statements, by name
+--     MetLaws       what a run meets is what the reader reads
+--     FitLaws       no line is longer than its room
+--     SteadyLaws    the course of a tray run is steady
 --     PrintedLaws   what is printed goes field by field
 --     WindowLaws    a call prints its part, whatever comes behind
 --     EndLaws       a call comes to an end
@@ -16,6 +19,9 @@
 --     AnswerLaws    every list of bytes gets an answer and an end
 --     OneBlock      one broken message costs one block, over recordings
 mod Theorems
+pub mod MetLaws
+pub mod FitLaws
+pub mod SteadyLaws
 pub mod PrintedLaws
 pub mod WindowLaws
 pub mod EndLaws

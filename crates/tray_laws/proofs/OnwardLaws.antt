@@ -18,19 +18,10 @@ use Rattle.recording.specs.Accepted.{TakesFields, no-more, a-field, seenAfterAl
 use Rattle.recording.proofs.TakenLaws.{taken-within, isReaderNumber, refused-names-place}
 use Rattle.recording.proofs.ValueLaws.{seen-by-values}
 use Rattle.lines.specs.Lines.{endLine, refusalLine}
+use Rattle.pieces.specs.LastLine.{counted, lastLine}
+use Rattle.pieces.specs.Whole.{whole, withLine}
 use Rattle.tray.specs.Happening.{happenings}
-use Rattle.tray.specs.Run.{
-  Tray,
-  counted,
-  lastLine,
-  taking,
-  takingLine,
-  Whole,
-  whole,
-  withLine,
-  wholeOf,
-  wholeFrom,
-}
+use Rattle.tray.specs.Run.{Tray, taking, takingLine, Whole, wholeFrom}
 use Rattle.tray_laws.specs.Answered.{
   toldLines,
   toldCard,
@@ -39,7 +30,7 @@ use Rattle.tray_laws.specs.Answered.{
   the-end,
   a-refusal,
 }
-use Rattle.tray_laws.proofs.PrintedLaws.{whole-by-reading}
+use Rattle.tray_laws.proofs.PrintedLaws.{wholeOf, whole-by-reading}
 
 -- ---- how far a run has come
 
@@ -89,7 +80,7 @@ pub goes-on : {seen : Seen} {bytes left : List ℕ} {fields : List Valued}
     ≡ whole
     (toldLines (happenings fields) (start .card)
     ++ wholeFrom (trayAfter start size fields) left .text)
-    (wholeFrom (trayAfter start size fields) left .tray)
+    (wholeFrom (trayAfter start size fields) left .run)
 unfolding trayAfter toldLines happenings wholeOf taking takingLine
 goes-on no-more start same size long = refl
 goes-on {seen = seen} {bytes = bytes} {left = left}
@@ -106,10 +97,10 @@ goes-on {seen = seen} {bytes = bytes} {left = left}
     whole-by-reading start bytes (Taken field next) read
     ∙ ap (withLine line)
     (goes-on then new (ap (seenAfter field) same) behind (omega (arith, left-within then)))
-    ∙ ap (λ (text : List ℕ). whole text (wholeFrom after left .tray))
+    ∙ ap (λ (text : List ℕ). whole text (wholeFrom after left .run))
     (sym (append-assoc line told (wholeFrom after left .text)))
     ∙ ap (λ (tray : Tray). whole ((line ++ told) ++ wholeFrom tray left .text)
-    (wholeFrom tray left .tray))
+    (wholeFrom tray left .run))
     (after-field start bytes field next behind rest (no-bytes then) read
     ∙ ap (λ (more : ℕ). trayAfter start more (valuedAt bytes field ∷ rest))
     (omega (arith, left-within then, field-bytes, ends, long)))
@@ -150,5 +141,5 @@ unfolding readAt
 accepted-run {bytes} {fields} start accepted =
     goes-on accepted start refl (length bytes) (omega arith)
     ∙ ap (λ (rest : Whole). whole (toldLines (happenings fields) (start .card) ++ rest .text)
-    (rest .tray))
+    (rest .run))
     (ends-at (trayAfter start (length bytes) fields) [] refl the-end)

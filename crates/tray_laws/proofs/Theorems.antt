@@ -50,7 +50,7 @@ start-is-sound : (ram : List ℕ) → length ram ≡ cardWords → SoundTray (tr
 start-is-sound = sound.start-is-sound
 
 call-is-sound : (window : List ℕ) (last : Bool) (old : Tray) (out : List ℕ) → SoundTray old
-    → SoundTray (windowRun old window last out .tray)
+    → SoundTray (windowRun old window last out .run)
 call-is-sound = pieces.call-is-sound
 
 -- any pieces print what the whole prints

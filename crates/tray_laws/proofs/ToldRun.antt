@@ -10,7 +10,9 @@ use Rattle.recording.specs.Accepted.{seenAfterAll, Accepted}
 use Rattle.recording.proofs.AcceptedLaws.{taken-after-setup}
 use Rattle.lines.specs.Lines.{endLine}
 use Rattle.tray.specs.Happening.{Happening, happenings}
-use Rattle.tray.specs.Run.{Tray, counted, whole, wholeFrom}
+use Rattle.pieces.specs.LastLine.{counted}
+use Rattle.pieces.specs.Whole.{whole}
+use Rattle.tray.specs.Run.{Tray, wholeFrom}
 use Rattle.tray_laws.specs.Answered.{toldLines, toldCard, trayAfter}
 use Rattle.tray_laws.specs.Told.{Tells}
 use Rattle.tray_laws.proofs.OnwardLaws.{accepted-run}

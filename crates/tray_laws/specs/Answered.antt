@@ -13,7 +13,9 @@ use Rattle.recording.specs.Value.{Valued}
 use Rattle.recording.specs.Accepted.{TakesFields, seenAfterAll}
 use Rattle.lines.specs.Lines.{endLine, refusalLine}
 use Rattle.tray.specs.Happening.{Happening, happenings, happened}
-use Rattle.tray.specs.Run.{Tray, counted, shownLine, whole, wholeFrom}
+use Rattle.pieces.specs.LastLine.{counted}
+use Rattle.pieces.specs.Whole.{whole}
+use Rattle.tray.specs.Run.{Tray, shownLine, wholeFrom}
 
 -- the lines of what fields tell, one after the other
 unfoldable pub toldLines : List Happening → Card → List ℕ

@@ -41,7 +41,9 @@ use Rattle.recording.specs.Tag.{tagAt}
 use Rattle.recording.specs.Field.{fieldAt}
 use Rattle.recording.specs.Seen.{seenAfter}
 use Rattle.recording.specs.Reading.{readAt}
-use Rattle.tray.specs.Run.{Tray, counted, shownLine, lastLine, Whole, whole, withLine}
+use Rattle.pieces.specs.LastLine.{counted, lastLine}
+use Rattle.pieces.specs.Whole.{whole, withLine}
+use Rattle.tray.specs.Run.{Tray, shownLine, Whole}
 use Rattle.tray_laws.specs.Sound.{SoundTray}
 
 -- ---- the library's action for a field

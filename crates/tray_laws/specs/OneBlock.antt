@@ -23,7 +23,9 @@ use Rattle.terminal_laws.specs.OneBlock.{stillBefore, Alike, SameAfter, ThatBlo
 use Rattle.recording.specs.Seen.{nothingSeen, setupSeen}
 use Rattle.lines.specs.Lines.{statusLine, endLine}
 use Rattle.tray.specs.Happening.{Happening, setup, event}
-use Rattle.tray.specs.Run.{counted, shownLine, trayOver, whole, wholeFrom}
+use Rattle.pieces.specs.LastLine.{counted}
+use Rattle.pieces.specs.Whole.{whole}
+use Rattle.tray.specs.Run.{shownLine, trayOver, wholeFrom}
 use Rattle.tray_laws.specs.Told.{Tells, CutTelling}
 
 -- ---- what recordings tell
@@ -123,7 +125,7 @@ module _ (ram : List ℕ) (station table flags : ℕ) where
           (cardAfter (upTo earlier heard told-one)) (cardAfter (upTo earlier heard told-two))
       -- .. and as the two runs leave them
       pub at-end : Alike (SpentBlock earlier heard)
-          (wholeFrom (trayOver ram) one .tray .card) (wholeFrom (trayOver ram) two .tray .card)
+          (wholeFrom (trayOver ram) one .run .card) (wholeFrom (trayOver ram) two .run .card)
 
   -- the same at the end of a later field: both recordings are cut there, and the claim is made of
   -- the parts before

@@ -15,14 +15,15 @@ use Rattle.recording.specs.Reading.{readAt}
 use Rattle.recording.specs.Value.{Valued, valuedAt}
 use Rattle.recording.specs.Accepted.{no-more, a-field, Accepted}
 use Rattle.lines.specs.Lines.{statusLine, queueLine, endLine}
+use Rattle.pieces.specs.LastLine.{lastLine}
+use Rattle.pieces.specs.Whole.{wholeOf, wholeBy, wholeFrom as everyWhole}
 use Rattle.tray.specs.Happening.{Happening, setup, event, happeningOf, happenings, happened}
 use Rattle.tray.specs.Run.{
   trayAtStart,
-  lastLine,
   taking,
   takingLine,
-  wholeOf,
-  wholeBy,
+  metBy,
+  trayCourse,
   wholeFrom,
   printed,
 }
@@ -146,8 +147,8 @@ the-recordings-are-the-same =
 
 -- to unfold `run` is to unfold the whole of a tray run
 unfoldable run : ℕ
-unfolding bytes runs happened trayAtStart lastLine taking takingLine wholeOf wholeBy wholeFrom
-    printed
+unfolding bytes runs happened trayAtStart lastLine taking takingLine metBy trayCourse wholeOf
+    wholeBy everyWhole printed
 run = 0
 
 -- the reply to the message, and then what both print
@@ -177,17 +178,17 @@ the-unsound-recording-prints = refl
 
 -- the same queue and memory, but for data and service cells of block 2 ..
 the-same-is-left : Alike (λ block. block ≡ theBlock 2)
-    (wholeFrom trayAtStart sound-recording .tray .card)
-    (wholeFrom trayAtStart unsound-recording .tray .card)
+    (wholeFrom trayAtStart sound-recording .run .card)
+    (wholeFrom trayAtStart unsound-recording .run .card)
 unfolding runs cardAfter ThatBlock trayAtStart
 the-same-is-left = the-recordings-are-the-same .at-end
 
 -- .. of which the state word does differ
-the-sound-state-word : getD (wholeFrom trayAtStart sound-recording .tray .card .ram) 186 0 ≡ 0x0002
+the-sound-state-word : getD (wholeFrom trayAtStart sound-recording .run .card .ram) 186 0 ≡ 0x0002
 unfolding run
 the-sound-state-word = refl
 
 the-unsound-state-word :
-    getD (wholeFrom trayAtStart unsound-recording .tray .card .ram) 186 0 ≡ 0x4101
+    getD (wholeFrom trayAtStart unsound-recording .run .card .ram) 186 0 ≡ 0x4101
 unfolding run
 the-unsound-state-word = refl

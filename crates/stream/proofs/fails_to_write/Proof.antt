@@ -7,6 +7,9 @@ use Rattle.stream.proofs.fails_to_write.Tie as tie
 returns : tie.Need-returns
 returns c = search (needs, no-failure) depth 9
 
+returns-2 : tie.Need-returns-2
+returns-2 c = search needs
+
 sub-write-all : tie.Need-sub-write-all
 sub-write-all c = search needs
 
@@ -19,16 +22,17 @@ part-write-all-end c = search needs
 write-all-requires : tie.Need-write-all-requires
 write-all-requires c κs = search needs
 
-returns-2 : tie.Need-returns-2
-returns-2 c = search needs
+returns-3 : tie.Need-returns-3
+returns-3 c = search needs
 
 pub fails-to-write-spec : {M : Type 1} → statement M
 fails-to-write-spec =
     tie.close
     (tie.spec
     returns
+    returns-2
     sub-write-all
     part-write-all-start
     part-write-all-end
     write-all-requires
-    returns-2)
+    returns-3)

@@ -4,14 +4,14 @@ use mathlib.Core.Path.{_≡_}
 use mathlib.Core.Logic.{_≢_}
 use mathlib.Core.Bool.{Bool, true, false}
 use mathlib.Core.List.{List, _++_}
-use Prim.Native.Nat.{ℕ, _+_, _-_, _≤_, _<_}
+use Prim.Native.Nat.{ℕ, _+_, _≤_}
 use lib.Dec.{eqb}
 use lib.IntN.{ℤ, pos, negsuc}
 use lib.ListN.{length, take}
 use Rattle.lines.specs.Written.{put}
-use Rattle.tray.specs.declared.window.Stop.{Stop}
-use Rattle.tray.specs.declared.window.Stop.the-variants.{Hungry, Over}
-use Rattle.tray.specs.AsCoded.Window.{keptRest}
+use Rattle.pieces.specs.declared.stop.Stop.{Stop}
+use Rattle.pieces.specs.declared.stop.Stop.the-variants.{Hungry, Over}
+use Rattle.pieces.specs.AsCoded.Rest.{keptRest}
 use Rattle.stream.specs.declared.Heard.{Heard}
 use Rattle.stream.specs.declared.Pump.{Pump}
 use Rattle.stream.specs.Progress.{bufferBytes}
@@ -60,10 +60,10 @@ pub record ReadOn (old : Pump) (window : List ℕ) (new : Pump) (window′ : Lis
 
 -- ---- what a call leaves to do
 
--- where the call needed bytes there is room to read them
-pub record RoomToRead (have : ℕ) (window : List ℕ) (stop : Stop) : Type 0 where
-  pub inside : have ≤ length window
-  pub room : stop ≡ Hungry → have < length window
+-- the program is over, by the run's own end or not
+abbrev pub endingWith : Bool → Pump → Pump
+endingWith whole old =
+    record { have = old .have; ended = old .ended; over = true; whole = whole }
 
 -- nothing, if its lines were not taken, or if it had no room for more; a run that has come to its
 -- end is whole only if they were
@@ -71,23 +71,13 @@ pub data AfterCall (pump : Pump) (window : List ℕ) : Stop → Pump → List �
   breaks-off : {stop : Stop} → pump .over ≡ true → AfterCall pump window stop pump window
   stays : {stop : Stop} → pump .over ≡ false → stop ≢ Over → stop ≢ Hungry
       → AfterCall pump window stop pump window
-  ends-run : {next : Pump} → pump .over ≡ false
-      → next ≡ record {
-        have = pump .have;
-        ended = pump .ended;
-        over = true;
-        whole = true;
-      }
+  ends-run : {next : Pump} → pump .over ≡ false → next ≡ endingWith true pump
       → AfterCall pump window Over next window
   reads-on : {next : Pump} {window′ : List ℕ} → pump .over ≡ false
       → ReadOn pump window next window′ → AfterCall pump window Hungry next window′
-
--- so many bytes count in the window, and so many in the buffer for lines; where the call needed
--- bytes there is room for them behind those that it did not take
-pub record ToSettle (have : ℕ) (window out : List ℕ) (at lines : ℕ) (stop : Stop) : Type 0 where
-  pub inside : have ≤ length window
-  pub lines-inside : lines ≤ length out
-  pub room : stop ≡ Hungry → have - at < length window
+  -- there is no room to read into, which no call leaves that needs bytes
+  no-room : {next : Pump} → pump .over ≡ false → length window ≤ pump .have
+      → next ≡ endingWith false pump → AfterCall pump window Hungry next window
 
 -- a call took so many bytes and put so many: its lines were written or not, which tells whether the
 -- program is over, the bytes that it did not take are kept, and what is left to do then is done

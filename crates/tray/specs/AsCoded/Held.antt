@@ -40,7 +40,7 @@ heldAtStart =
 abbrev pub passedOf : HeldPassed → List ℕ → List ℕ → List ℕ → Passed
 passedOf ran places ram out =
     record {
-      tray = trayOf (ran .tray) places ram;
+      run = trayOf (ran .tray) places ram;
       at = ran .at;
       put = ran .put;
       out = out;

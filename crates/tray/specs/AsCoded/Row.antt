@@ -18,10 +18,10 @@ use Rattle.recording.specs.declared.words.Found.the-variants.{Value, Nothing}
 use Rattle.recording.specs.Bytes.{timeAt}
 use Rattle.recording.specs.AsCoded.Found.{wordFound}
 use Rattle.lines.specs.Written.{lineRoom, mostWords}
+use Rattle.pieces.specs.declared.stop.Stop.the-variants.{Going}
+use Rattle.pieces.specs.LastLine.{counted}
 use Rattle.tray.specs.declared.row.Reach.{Reach}
 use Rattle.tray.specs.declared.window.Passed.{Passed as HeldPassed}
-use Rattle.tray.specs.declared.window.Stop.the-variants.{Going}
-use Rattle.tray.specs.Run.{counted}
 use Rattle.tray.specs.AsCoded.Window.{turns}
 use Rattle.tray.specs.AsCoded.Held.{passedOf}
 

@@ -11,7 +11,8 @@ use Rattle.terminal.specs.Machine.{step, run}
 use Rattle.recording.specs.Seen.{nothingSeen}
 use Rattle.lines.specs.Lines.{endLine}
 use Rattle.tray.specs.Happening.{Happening, setup, event, happened}
-use Rattle.tray.specs.Run.{trayOver, counted, shownLine}
+use Rattle.pieces.specs.LastLine.{counted}
+use Rattle.tray.specs.Run.{trayOver, shownLine}
 use Rattle.tray_laws.specs.Told.{Tells}
 use Rattle.tray_laws.specs.Answered.{toldLines, toldCard}
 use Rattle.tray_laws.specs.OneBlock.{events, lineOf, linesOf, cardAfter, RunsTo}

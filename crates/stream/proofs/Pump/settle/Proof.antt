@@ -1,7 +1,6 @@
 -- `stream::Pump::settle` meets its contract: its lines are written, and the rest is kept. Assumes
 -- nothing.
 use borrow.Author.Needs.{needs}
-use Rattle.stream.proofs.CallLaws.{settles-room}
 use Rattle.stream.proofs.Pump.settle.Statement.{statement}
 use Rattle.stream.proofs.Pump.settle.Tie as tie
 
@@ -12,7 +11,7 @@ keep-rest-requires : tie.Need-keep-rest-requires
 keep-rest-requires c κs = search needs
 
 after-call-requires : tie.Need-after-call-requires
-after-call-requires c κs = search (needs, settles-room) depth 9
+after-call-requires c κs = search needs
 
 same-length : tie.Need-same-length
 same-length c = search needs

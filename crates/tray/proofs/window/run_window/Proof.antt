@@ -1,7 +1,7 @@
 -- `tray::window::run_window` meets its contract, by the laws of its loop. Assumes nothing.
 use borrow.Author.Needs.{needs}
+use Rattle.pieces.specs.AsCoded.Window.{windowRun}
 use Rattle.tray.specs.AsCoded.Held.{passedOf}
-use Rattle.tray.specs.AsCoded.Window.{windowRun}
 use Rattle.tray.proofs.LoopLaws.{Leads, leads-on, leading}
 use Rattle.tray.proofs.window.run_window.Statement.{statement}
 use Rattle.tray.proofs.window.run_window.Tie as tie

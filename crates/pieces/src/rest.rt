@@ -1,7 +1,7 @@
 // What is left of a window: it moves to the front, where the next piece is read behind it.
 ghost use mathlib.Core.Path.{_≡_};
 ghost use Rattle.lines.specs.Written.{put};
-ghost use Rattle.tray.specs.AsCoded.Window.{keptRest};
+ghost use Rattle.pieces.specs.AsCoded.Rest.{keptRest};
 
 // The bytes of the window from a place to an end move to its front, where the next piece is read
 // behind them. Answers how many they are.

@@ -1,9 +1,9 @@
--- `tray::rest::keep_rest` meets its contract, by the laws of its loop. Assumes nothing.
+-- `pieces::rest::keep_rest` meets its contract, by the laws of its loop. Assumes nothing.
 use Prim.Native.Nat.{_-_}
 use borrow.Author.Needs.{needs}
-use Rattle.tray.proofs.KeepLaws.{Keeping, keeping}
-use Rattle.tray.proofs.rest.keep_rest.Statement.{statement}
-use Rattle.tray.proofs.rest.keep_rest.Tie as tie
+use Rattle.pieces.proofs.KeepLaws.{Keeping, keeping}
+use Rattle.pieces.proofs.rest.keep_rest.Statement.{statement}
+use Rattle.pieces.proofs.rest.keep_rest.Tie as tie
 
 abbrev Inv-loop : tie.InvT-loop
 Inv-loop window₀ at end count byte₀ window byte = Keeping window₀ at end window byte

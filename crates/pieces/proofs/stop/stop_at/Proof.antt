@@ -1,10 +1,10 @@
--- `tray::window::stop_at` meets its contract, by the cases of its test. Assumes nothing.
+-- `pieces::stop::stop_at` meets its contract, by the cases of its test. Assumes nothing.
 use borrow.Author.Needs.{needs}
 use Rattle.rules.proofs.Cases.{cases}
-use Rattle.tray.specs.AsCoded.Window.{stoppedAt}
-use Rattle.tray.proofs.TurnLaws.{over-line}
-use Rattle.tray.proofs.window.stop_at.Statement.{statement}
-use Rattle.tray.proofs.window.stop_at.Tie as tie
+use Rattle.pieces.specs.AsCoded.Window.{stoppedAt}
+use Rattle.pieces.proofs.StopLaws.{over-line}
+use Rattle.pieces.proofs.stop.stop_at.Statement.{statement}
+use Rattle.pieces.proofs.stop.stop_at.Tie as tie
 
 returns : tie.Need-returns
 unfolding stoppedAt

@@ -1,9 +1,9 @@
--- `stream::run_input` meets its contract: memory of zeros is where a recording starts. Assumes
+-- `tray_stream::run_input` meets its contract: memory of zeros is where a recording starts. Assumes
 -- nothing.
 use borrow.Author.Needs.{needs}
-use Rattle.stream.proofs.LoopLaws.{zero-memory}
-use Rattle.stream.proofs.run_input.Statement.{statement}
-use Rattle.stream.proofs.run_input.Tie as tie
+use Rattle.tray_stream.proofs.LoopLaws.{zero-memory}
+use Rattle.tray_stream.proofs.run_input.Statement.{statement}
+use Rattle.tray_stream.proofs.run_input.Tie as tie
 
 large-buffer-requires : tie.Need-large-buffer-requires
 large-buffer-requires c κs = search needs

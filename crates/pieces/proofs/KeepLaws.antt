@@ -17,7 +17,7 @@ use lib.Seq.{
 }
 use borrow.Author.Tests.{le-leb, lt-leb}
 use Rattle.lines.specs.Written.{put}
-use Rattle.tray.specs.AsCoded.Window.{keptRest}
+use Rattle.pieces.specs.AsCoded.Rest.{keptRest}
 
 module _ (start : List ℕ) (at end : ℕ) where
   -- so many bytes have been moved

@@ -1,8 +1,8 @@
--- `tray::print::put_last` meets its contract: a law for each last line. Assumes nothing.
+-- `pieces::stop::put_last` meets its contract: a law for each last line. Assumes nothing.
 use borrow.Author.Needs.{needs}
-use Rattle.tray.proofs.LineLaws.{last-lines}
-use Rattle.tray.proofs.print.put_last.Statement.{statement}
-use Rattle.tray.proofs.print.put_last.Tie as tie
+use Rattle.pieces.proofs.LineLaws.{last-lines}
+use Rattle.pieces.proofs.stop.put_last.Statement.{statement}
+use Rattle.pieces.proofs.stop.put_last.Tie as tie
 
 end-line-requires : tie.Need-end-line-requires
 end-line-requires c κs = search needs

@@ -1,9 +1,9 @@
--- `stream::run_pieces` meets its contract, by the laws of its loop. Assumes nothing.
+-- `tray_stream::run_pieces` meets its contract, by the laws of its loop. Assumes nothing.
 use borrow.Author.Needs.{needs}
 use Rattle.tray.specs.AsCoded.Held.{trayOf, heldAtStart}
-use Rattle.stream.proofs.LoopLaws.{Pumping, pumping-settles, pumping}
-use Rattle.stream.proofs.run_pieces.Statement.{statement}
-use Rattle.stream.proofs.run_pieces.Tie as tie
+use Rattle.tray_stream.proofs.LoopLaws.{Pumping, pumping}
+use Rattle.tray_stream.proofs.run_pieces.Statement.{statement}
+use Rattle.tray_stream.proofs.run_pieces.Tie as tie
 
 abbrev Inv-loop : tie.InvT-loop
 Inv-loop places₀ ram₀ window₀ out₀ tray₀ pump₀ turns₀ places ram window out tray pump turns =
@@ -43,10 +43,7 @@ run-window-requires : tie.Need-run-window-requires Inv-loop μ-loop
 run-window-requires c κs = search (needs, pumping) depth 9
 
 settle-requires : tie.Need-settle-requires Inv-loop μ-loop
-settle-requires c κs =
-    let at-call = c .before .before .before .before .before .before .before in
-    let at-loop = at-call .before .before .before .before .before .before .before .before in
-    pumping-settles _ _ _ _ _ _ _ _ _ _ _ (at-loop .loop .inv) (at-call .run-window .ensures)
+settle-requires c κs = search (needs, pumping) depth 9
 
 sub-turns : tie.Need-sub-turns Inv-loop μ-loop
 sub-turns c = search (needs, pumping) depth 9
