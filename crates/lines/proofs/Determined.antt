@@ -11,6 +11,10 @@ use Rattle.lines.proofs.end_line.Kinds as end-line-kinds
 use Rattle.lines.proofs.end_line.Reads as end-line-reads
 use Rattle.lines.proofs.refusal_line.Kinds as refusal-line-kinds
 use Rattle.lines.proofs.refusal_line.Reads as refusal-line-reads
+use Rattle.lines.proofs.given_line.Kinds as given-line-kinds
+use Rattle.lines.proofs.given_line.Reads as given-line-reads
+use Rattle.lines.proofs.result_line.Kinds as result-line-kinds
+use Rattle.lines.proofs.result_line.Reads as result-line-reads
 use Rattle.lines.proofs.text.Kinds as text-kinds
 use Rattle.lines.proofs.text.Reads as text-reads
 use Rattle.lines.proofs.hex_byte.Kinds as hex-byte-kinds
@@ -41,6 +45,16 @@ pub refusal-line :
     DeterminedAs 1 refusal-line-kinds.ps refusal-line-kinds.r refusal-line-reads.Post Put
     (λ κs result exit. put result (now (exit .0)))
 refusal-line κs arguments result result′ exit exit′ = same
+
+pub result-line :
+    DeterminedAs 1 result-line-kinds.ps result-line-kinds.r result-line-reads.Post Put
+    (λ κs result exit. put result (now (exit .0)))
+result-line κs arguments result result′ exit exit′ = same
+
+pub given-line :
+    DeterminedAs 2 given-line-kinds.ps given-line-kinds.r given-line-reads.Post Put
+    (λ κs result exit. put result (now (exit .0)))
+given-line κs arguments result result′ exit exit′ = same
 
 pub text :
     DeterminedAs 2 text-kinds.ps text-kinds.r text-reads.Post Put

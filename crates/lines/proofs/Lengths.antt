@@ -1,5 +1,6 @@
 -- How long each line is: none is longer than the room that it is given. Assumes nothing.
 use mathlib.Core.Path.{_≡_, refl}
+use mathlib.Core.Bool.{Bool, cond}
 use mathlib.Core.List.{List, [], _∷_, _++_}
 use Prim.Native.Nat.{ℕ, _+_, _*_, _≤_}
 use native.Mathlib.Omega.{arith}
@@ -12,9 +13,12 @@ use Rattle.lines.specs.Lines.{
   statusLine,
   queueLine,
   endLine,
+  numbersLine,
   refusalLine,
+  givenLine,
+  resultLine,
 }
-use Rattle.lines.specs.Written.{lineRoom, mostWords}
+use Rattle.lines.specs.Written.{lineRoom, mostWords, mostGiven}
 use Rattle.lines.proofs.DecimalLaws.{length-decimal}
 
 pub length-hex-byte : (byte : ℕ) → length (hexByte byte) ≡ 2
@@ -65,13 +69,26 @@ unfolding endLine
 length-end-line fields =
     omega (arith, length-append (decimal fields) (newline ∷ []), length-decimal fields)
 
-pub length-refusal-line : (number offset : ℕ) → length (refusalLine number offset) ≤ lineRoom
-unfolding refusalLine
-length-refusal-line number offset =
+length-numbers-line : (letter one other : ℕ) → length (numbersLine letter one other) ≤ lineRoom
+length-numbers-line letter one other =
     omega (
       arith,
-      length-append (decimal number) (blank ∷ (decimal offset ++ (newline ∷ []))),
-      length-append (decimal offset) (newline ∷ []),
-      length-decimal number,
-      length-decimal offset,
+      length-append (decimal one) (blank ∷ (decimal other ++ (newline ∷ []))),
+      length-append (decimal other) (newline ∷ []),
+      length-decimal one,
+      length-decimal other,
     )
+
+pub length-refusal-line : (number offset : ℕ) → length (refusalLine number offset) ≤ lineRoom
+unfolding refusalLine
+length-refusal-line number offset = length-numbers-line 33 number offset
+
+pub length-result-line : (code : ℕ) (mark : Bool) → length (resultLine code mark) ≤ lineRoom
+unfolding resultLine
+length-result-line code mark = length-numbers-line 82 code (cond mark 1 0)
+
+pub length-given-line : (words : List ℕ) → length words ≤ mostGiven
+    → length (givenLine words) ≤ lineRoom
+unfolding givenLine
+length-given-line words few =
+    omega (arith, length-append (eachWord words) (newline ∷ []), length-each-word words)

@@ -8,15 +8,17 @@ use native.Mathlib.Omega.{arith}
 use lib.ListN.{length, take, drop, length-append}
 use lib.Seq.{sets-eq, length-sets, length-take-le, take-at, drop-at}
 use borrow.Author.Tests.{le-leb, lt-leb}
-use Rattle.lines.specs.Lines.{statusLine}
+use Rattle.lines.specs.Lines.{statusLine, givenLine}
 use Rattle.lines.specs.Written.{
   put,
   stored,
   written,
   lineRoom,
   mostWords,
+  mostGiven,
   lineWritten,
   statusWritten,
+  givenWritten,
 }
 use Rattle.lines.proofs.Lengths.{length-status-line}
 
@@ -105,3 +107,15 @@ module _ (out : List ℕ) (at status : ℕ) (words : List ℕ) where
             (length-status-line status words few))
         | no many ↦ rw (many-words (omega arith)) (omega arith)
       ]
+
+-- ---- the line of words given
+
+module _ (out : List ℕ) (at : ℕ) (words : List ℕ) where
+  pub few-given : length words ≤ mostGiven
+      → givenWritten out at words ≡ lineWritten out at (givenLine words)
+  unfolding givenWritten
+  few-given few = rw (le-leb (length words) mostGiven few)
+
+  pub many-given : mostGiven < length words → givenWritten out at words ≡ put at out
+  unfolding givenWritten
+  many-given many = rw (lt-leb (length words) mostGiven many)

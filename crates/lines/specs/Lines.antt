@@ -1,6 +1,7 @@
--- The lines that a tray run prints, as document 01 gives them, byte by byte; each ends with a
--- newline. `S` is the byte 83, `Q` 81, `E` `N` `D` are 69 78 68, and `!` is 33.
+-- The lines that runs print, byte by byte; each ends with a newline. Document 01 has `S`, the byte
+-- 83, `Q`, 81, `E` `N` `D`, 69 78 68, and `!`, 33; a controller's run has `G`, 71, and `R`, 82.
 -- Definitions only. Assumes nothing.
+use mathlib.Core.Bool.{Bool, cond}
 use mathlib.Core.List.{List, [], _∷_, _++_}
 use Prim.Native.Nat.{ℕ}
 use Rattle.lines.specs.Digits.{hexWord, decimal}
@@ -28,7 +29,21 @@ queueLine word = 81 ∷ blank ∷ (hexWord word ++ (newline ∷ []))
 unfoldable pub endLine : ℕ → List ℕ
 endLine fields = 69 ∷ 78 ∷ 68 ∷ blank ∷ (decimal fields ++ (newline ∷ []))
 
--- `!`: a refusal's number and the offset of its field's first byte, decimal
+-- two numbers behind a letter, decimal
+abbrev pub numbersLine : ℕ → ℕ → ℕ → List ℕ
+numbersLine letter first second =
+    letter ∷ blank ∷ (decimal first ++ (blank ∷ (decimal second ++ (newline ∷ []))))
+
+-- `!`: a refusal's number and the offset of its field's first byte
 unfoldable pub refusalLine : ℕ → ℕ → List ℕ
-refusalLine number offset =
-    33 ∷ blank ∷ (decimal number ++ (blank ∷ (decimal offset ++ (newline ∷ []))))
+refusalLine number offset = numbersLine 33 number offset
+
+-- ---- a controller's run
+
+-- `G`: the words given, a blank before each
+unfoldable pub givenLine : List ℕ → List ℕ
+givenLine words = 71 ∷ (eachWord words ++ (newline ∷ []))
+
+-- `R`: the code of a result, and its mark, 0 or 1
+unfoldable pub resultLine : ℕ → Bool → List ℕ
+resultLine code mark = numbersLine 82 code (cond mark 1 0)

@@ -6,7 +6,7 @@ use Prim.Native.Nat.{ℕ, _+_, _-_}
 use lib.Dec.{leb}
 use lib.ListN.{length}
 use lib.Seq.{sets}
-use Rattle.lines.specs.Lines.{statusLine}
+use Rattle.lines.specs.Lines.{statusLine, givenLine}
 
 -- where the next byte goes, and every byte of the buffer
 pub record Put : Type 0 where
@@ -40,6 +40,15 @@ mostWords = 32
 unfoldable pub statusWritten : List ℕ → ℕ → ℕ → List ℕ → Put
 statusWritten out at status words =
     cond (leb (length words) mostWords) (lineWritten out at (statusLine status words)) (put at out)
+
+-- the words that a message gives at the most: a command and those
+abbrev pub mostGiven : ℕ
+mostGiven = 33
+
+-- a line of words given: of more words than that, nothing is written
+unfoldable pub givenWritten : List ℕ → ℕ → List ℕ → Put
+givenWritten out at words =
+    cond (leb (length words) mostGiven) (lineWritten out at (givenLine words)) (put at out)
 
 -- a part of a line is stored, for the functions that are given the room they need; the buffer
 -- stays as long as it was

@@ -1,4 +1,4 @@
-// The lines that a tray run prints, each written into a lent buffer from a place on. Every public
+// The lines that runs print, each written into a lent buffer from a place on. Every public
 // function answers where the next byte goes; where the room from that place on is short, it writes
 // nothing and answers the place that it was given. The private ones below write the parts of a
 // line: each is given the room that it needs, and its contract bounds the next place, by which a
@@ -15,8 +15,23 @@ ghost use Rattle.lines.specs.Digits.{
   decimal,
   decimalPlaces,
 };
-ghost use Rattle.lines.specs.Lines.{blank, eachWord, queueLine, endLine, refusalLine};
-ghost use Rattle.lines.specs.Written.{put, written, lineWritten, statusWritten, Wrote};
+ghost use Rattle.lines.specs.Lines.{
+  blank,
+  eachWord,
+  queueLine,
+  endLine,
+  numbersLine,
+  refusalLine,
+  resultLine,
+};
+ghost use Rattle.lines.specs.Written.{
+  put,
+  written,
+  lineWritten,
+  statusWritten,
+  givenWritten,
+  Wrote,
+};
 
 // The room that each line is given. The longest, a status and 32 words, has 167 bytes.
 pub const LINE_ROOM: usize = 168;
@@ -24,10 +39,13 @@ pub const LINE_ROOM: usize = 168;
 // The words that a message sends at the most.
 pub const MOST_WORDS: usize = 32;
 
+// The words that a message gives at the most: a command and those.
+pub const MOST_GIVEN: usize = 33;
+
 // The digits of a number of 64 bits at the most.
 pub const DECIMAL_PLACES: usize = 20;
 
-// ---- the four lines
+// ---- the lines of a tray run
 
 // `S`: status and words sent, parted by single blanks. Of more than 32 words nothing is written.
 pub fn status_line(out: &mut [u8], at: usize, status: u16, words: &[u16]) -> usize
@@ -78,12 +96,36 @@ pub fn refusal_line(out: &mut [u8], at: usize, number: u8, offset: u64) -> usize
     ensures { λ next. ⌜ put next (now (out .exit))
         ≡ lineWritten (now (out .entry)) at (refusalLine number offset) ⌝ }
 {
+    numbers_line(out, at, b'!', number as u64, offset)
+}
+
+// ---- those of a controller's run
+
+// `G`: the words given, a blank before each. Of more than 33 words nothing is written.
+pub fn given_line(out: &mut [u8], at: usize, words: &[u16]) -> usize
+    ensures { λ next. ⌜ put next (now (out .exit))
+        ≡ givenWritten (now (out .entry)) at (now (words .entry)) ⌝ }
+{
+    if words.len() > MOST_GIVEN {
+        return at;
+    }
     if left_from(out.len(), at) < LINE_ROOM {
         return at;
     }
-    let first = put_two(out, at, b'!', b' ');
-    let second = put_decimal_and(out, first, number as u64, b' ');
-    put_decimal_and(out, second, offset, b'\n')
+    let first = put_one(out, at, b'G');
+    let second = put_words(out, first, words);
+    put_one(out, second, b'\n')
+}
+
+// `R`: the code of a result, and its mark, 0 or 1.
+pub fn result_line(out: &mut [u8], at: usize, code: u16, mark: bool) -> usize
+    ensures { λ next. ⌜ put next (now (out .exit))
+        ≡ lineWritten (now (out .entry)) at (resultLine code mark) ⌝ }
+{
+    if mark {
+        return numbers_line(out, at, b'R', code as u64, 1);
+    }
+    numbers_line(out, at, b'R', code as u64, 0)
 }
 
 // ---- what else a program prints: no newline of its own
@@ -133,6 +175,19 @@ pub fn decimal(out: &mut [u8], at: usize, number: u64) -> usize
 }
 
 // ---- the parts of a line
+
+// Two numbers behind a letter, decimal.
+fn numbers_line(out: &mut [u8], at: usize, letter: u8, one: u64, other: u64) -> usize
+    ensures { λ next. ⌜ put next (now (out .exit))
+        ≡ lineWritten (now (out .entry)) at (numbersLine letter one other) ⌝ }
+{
+    if left_from(out.len(), at) < LINE_ROOM {
+        return at;
+    }
+    let first = put_two(out, at, letter, b' ');
+    let second = put_decimal_and(out, first, one, b' ');
+    put_decimal_and(out, second, other, b'\n')
+}
 
 // How many bytes are left from a place on: none where it lies past the end.
 pub fn left_from(size: usize, at: usize) -> usize
