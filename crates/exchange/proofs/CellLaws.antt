@@ -1,13 +1,12 @@
 -- Where a word of the answer is stored: behind the words given, and not above the highest cell.
 -- Assumes nothing.
 use mathlib.Core.Path.{_≡_}
-use mathlib.Core.Bool.{Bool, true, false, not}
+use mathlib.Core.Bool.{Bool, true, false, true≢false, not}
 use Prim.Native.Nat.{ℕ, _+_, _≤_}
 use native.Mathlib.Omega.{arith}
 use lib.Dec.{eqb, leb}
 use borrow.Author.Tests.{leb-false}
 use Rattle.rules.proofs.Choices.{by-test}
-use Rattle.rules.proofs.Clash.{not-both}
 use Rattle.bus.specs.declared.word.Word.{Word}
 use Rattle.bus.specs.Command.{addressOf}
 use Rattle.formats.specs.Row.{statusCell, replyCell, lastCell, highestCell}
@@ -69,7 +68,7 @@ module _ (order : Order) (exchange : Exchange) (word : Word) where
       of-status (lastCell (formatFor order)) (awaitedLast order) Ended (omega arith)
       (last-at-most order)
   of-stage Ended =
-      of-data true (replyCell (formatFor order)) (omega arith) (λ due. absurd (not-both due))
+      of-data true (replyCell (formatFor order)) (omega arith) (λ due. absurd (true≢false due))
 
   -- whatever the stage
   pub stored-behind-given : BehindGiven order (onWord order exchange word)

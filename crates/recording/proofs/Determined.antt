@@ -14,6 +14,10 @@ use Rattle.recording.proofs.words.find_word.Kinds as find-word-kinds
 use Rattle.recording.proofs.words.find_word.Reads as find-word-reads
 use Rattle.recording.proofs.words.copy_words.Kinds as copy-words-kinds
 use Rattle.recording.proofs.words.copy_words.Reads as copy-words-reads
+use Rattle.recording.proofs.words.write_words.Kinds as write-words-kinds
+use Rattle.recording.proofs.words.write_words.Reads as write-words-reads
+use Rattle.recording.proofs.bytes.of_bytes.Kinds as of-bytes-kinds
+use Rattle.recording.proofs.bytes.of_bytes.Reads as of-bytes-reads
 
 pub nothing-seen : Determined 0 nothing-kinds.ps nothing-kinds.r nothing-reads.Post
 nothing-seen κs arguments result result′ exit exit′ = same
@@ -31,3 +35,11 @@ pub copy-words :
     DeterminedAs 2 copy-words-kinds.ps copy-words-kinds.r copy-words-reads.Post (List ℕ)
     (λ κs result exit. now (exit .1 .1 .1 .0))
 copy-words κs arguments result result′ exit exit′ = same
+
+pub write-words :
+    DeterminedAs 2 write-words-kinds.ps write-words-kinds.r write-words-reads.Post (List ℕ)
+    (λ κs result exit. now (exit .1 .1 .1 .0))
+write-words κs arguments result result′ exit exit′ = same
+
+pub of-bytes : Determined 0 of-bytes-kinds.ps of-bytes-kinds.r of-bytes-reads.Post
+of-bytes κs arguments result result′ exit exit′ = same

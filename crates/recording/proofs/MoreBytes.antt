@@ -1,8 +1,8 @@
 -- Bytes that come behind change no reading that is settled (`settled-stays`): a taken field, and
 -- every refusal but 5. 133 bytes settle any (`settled-by-133`). Assumes nothing.
-use mathlib.Core.Path.{_≡_, refl, sym, ap, _∙_}
+use mathlib.Core.Path.{_≡_, refl, ap, _∙_}
 use mathlib.Core.Logic.{_≢_}
-use mathlib.Core.Bool.{Bool, true, false, true≢false, cond, not}
+use mathlib.Core.Bool.{Bool, true, false, not}
 use mathlib.Core.List.{List, _++_}
 use Prim.Native.Nat.{ℕ, zero, suc, _+_, _*_, _≤_, _<_}
 use native.Mathlib.Omega.{arith}
@@ -18,6 +18,7 @@ use borrow.Author.Tests.{
   not-false,
 }
 use Rattle.rules.proofs.Choices.{by-test}
+use Rattle.rules.proofs.Stays.{Stays, same, open-way, same-way}
 use Rattle.card.specs.Memory.{cardBlocks}
 use Rattle.recording.specs.declared.tag.Tag.{Tag}
 use Rattle.recording.specs.declared.tag.Tag.the-variants.{
@@ -54,11 +55,11 @@ use Rattle.recording.proofs.FieldLaws.{
 -- ---- what stands in the front is there still
 
 module _ (front back : List ℕ) where
-  byte-of-more : (place : ℕ) → place < length front
+  pub byte-of-more : (place : ℕ) → place < length front
       → byteAt (front ++ back) place ≡ byteAt front place
   byte-of-more place inside = List·getD-append front back 0 place inside
 
-  word-of-more : (place : ℕ) → place + 2 ≤ length front
+  pub word-of-more : (place : ℕ) → place + 2 ≤ length front
       → wordAt (front ++ back) place ≡ wordAt front place
   word-of-more place inside =
       rw (byte-of-more place (omega arith), byte-of-more (place + 1) (omega arith))
@@ -104,39 +105,18 @@ module _ (front back : List ℕ) where
 
 -- ---- a settled reading stays
 
-record Stays (old new : Reading) : Type 0 where
-  stays : isSettled old ≡ true → new ≡ old
-
-same : {reading : Reading} → Stays reading reading
-same = record { stays = λ _. refl }
-
--- a test that more bytes may decide otherwise stands before what is not settled ..
-open-way : (old : Reading) {left left′ : Reading} (test test′ : Bool) → isSettled old ≡ false
-    → (test ≡ false → test′ ≡ false) → (test ≡ false → Stays left left′)
-    → Stays (cond test old left) (cond test′ old left′)
-open-way old true test′ unsettled still rest =
-    record { stays = λ settled. absurd (true≢false (sym settled ∙ unsettled)) }
-open-way old false test′ unsettled still rest =
-    record { stays = λ settled. rw (still refl) (rest refl .stays settled) }
-
--- .. and every other test is as it was
-same-way : (old : Reading) {left left′ : Reading} (test : Bool) → (test ≡ false → Stays left left′)
-    → Stays (cond test old left) (cond test old left′)
-same-way old true rest = same
-same-way old false rest = rest refl
-
 module _ (front back : List ℕ) (place : ℕ) (seen : Seen) where
-  reading-stays : Stays (readAt front place seen) (readAt (front ++ back) place seen)
+  reading-stays : Stays isSettled (readAt front place seen) (readAt (front ++ back) place seen)
   unfolding readAt
   reading-stays =
-      open-way End (eqb left 0) (eqb left′ 0) refl still-some (λ some.
+      open-way isSettled End (eqb left 0) (eqb left′ 0) refl still-some (λ some.
       rw (byte-of-more front back place (omega (arith, eqb-false left 0 some)))
-      (same-way (Refused 6 place) (isUnknown tag) (λ _.
-      open-way (Refused 5 place) (ltb left 3) (ltb left′ 3) refl (still 3) (λ long.
+      (same-way isSettled (Refused 6 place) (isUnknown tag) (λ _.
+      open-way isSettled (Refused 5 place) (ltb left 3) (ltb left′ 3) refl (still 3) (λ long.
       rw (word-of-more front back (place + 1) (omega (arith, ltb-false left 3 long)))
-      (same-way (Refused 7 place) (not (lengthFits tag size)) (λ fits.
-      open-way (Refused 5 place) (ltb left all) (ltb left′ all) refl (still all) (λ whole.
-      rw (field-of-more front back tag (place + 3) size (there fits whole)) same)))))))
+      (same-way isSettled (Refused 7 place) (not (lengthFits tag size)) (λ fits.
+      open-way isSettled (Refused 5 place) (ltb left all) (ltb left′ all) refl (still all) (λ whole.
+      rw (field-of-more front back tag (place + 3) size (there fits whole)) (same isSettled))))))))
     where
       left : ℕ
       left = bytesLeft front place

@@ -58,10 +58,10 @@ seen-of-shifted start (SetFlags flags) seen = refl
 module _ (start : ℕ) (bytes : List ℕ) where
   -- ---- numbers
 
-  byte-of-drop : (place : ℕ) → byteAt bytes (start + place) ≡ byteAt (drop start bytes) place
+  pub byte-of-drop : (place : ℕ) → byteAt bytes (start + place) ≡ byteAt (drop start bytes) place
   byte-of-drop place = sym (getD-drop start bytes place 0)
 
-  word-of-drop : (place : ℕ) → wordAt bytes (start + place) ≡ wordAt (drop start bytes) place
+  pub word-of-drop : (place : ℕ) → wordAt bytes (start + place) ≡ wordAt (drop start bytes) place
   word-of-drop place =
       rw (add-assoc start place 1, byte-of-drop place, byte-of-drop (place + 1))
 

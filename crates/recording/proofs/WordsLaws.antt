@@ -11,7 +11,7 @@ use lib.ListN.{length, set, take, drop}
 use lib.Seq.{sets, sets-eq, length-sets, take-at}
 use borrow.Author.Tests.{le-leb, lt-leb}
 use Rattle.rules.proofs.Choices.{by-test}
-use Rattle.recording.specs.Bytes.{bytesLeft, wordAt, wordsAt, withWords}
+use Rattle.recording.specs.Bytes.{bytesLeft, wordAt, wordsAt, withWords, mostWritten, withWritten}
 
 -- ---- the loop: the words that are left take what is there to what is wanted
 
@@ -99,3 +99,43 @@ front-of-copy words bytes first count room there =
       sets-eq copied words 0 (omega arith),
     )
     (take-at copied (drop (0 + length copied) words) count as-many)
+
+-- ---- words that are written
+
+module _ (ram bytes : List ℕ) (address first count : ℕ) where
+  pub too-many-written : mostWritten < count → ram ≡ withWritten ram address bytes first count
+  unfolding withWritten
+  too-many-written many = rw (lt-leb count mostWritten many)
+
+  module _ (few : count ≤ mostWritten) where
+    pub not-there-written : (left : ℕ) → left ≡ bytesLeft bytes first → left < 2 * count
+        → ram ≡ withWritten ram address bytes first count
+    unfolding withWritten
+    not-there-written left is short =
+        rw (
+          le-leb count mostWritten few,
+          lt-leb (2 * count) (bytesLeft bytes first) (omega arith),
+        )
+
+    -- all are there
+    pub words-written : 2 * count ≤ bytesLeft bytes first
+        → withWritten ram address bytes first count ≡ sets ram address (wordsAt bytes first count)
+    unfolding withWritten
+    words-written there =
+        rw (le-leb count mostWritten few, le-leb (2 * count) (bytesLeft bytes first) there)
+
+    pub copied-written : (left : ℕ) (words words′ ram′ : List ℕ)
+        → left ≡ bytesLeft bytes first → 2 * count ≤ left → mostWritten ≡ length words
+        → words′ ≡ sets words 0 (wordsAt bytes first count)
+        → ram′ ≡ sets ram address (take (count - 0) (drop 0 words′))
+        → ram′ ≡ withWritten ram address bytes first count
+    copied-written left words words′ ram′ is there long is-words is-ram =
+        let copied : List ℕ = wordsAt bytes first count in
+        let all : count - 0 ≡ count = omega arith in
+        let as-many : length copied ≡ count = length-words-at bytes first count in
+        let front : take count words′ ≡ copied =
+        rw (is-words, sets-eq copied words 0 (omega arith))
+        (take-at copied (drop (0 + length copied) words) count as-many) in
+        rw (is-ram, all, front, words-written (omega arith))
+
+pub ruleset writings = (too-many-written, not-there-written, copied-written)

@@ -31,3 +31,14 @@ withWords words bytes first count =
     cond (leb count (length words) && leb (2 * count) (bytesLeft bytes first))
     (sets words 0 (wordsAt bytes first count))
     words
+
+-- the words of a field that writes: 64 at the most
+abbrev pub mostWritten : ℕ
+mostWritten = 64
+
+-- memory with so many of them written from an address on, where all are there
+unfoldable pub withWritten : List ℕ → ℕ → List ℕ → ℕ → ℕ → List ℕ
+withWritten ram address bytes first count =
+    cond (leb count mostWritten && leb (2 * count) (bytesLeft bytes first))
+    (sets ram address (wordsAt bytes first count))
+    ram

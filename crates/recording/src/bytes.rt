@@ -14,7 +14,8 @@ pub(crate) fn bytes_left(bytes: &[u8], place: usize) -> usize
     bytes.len() - place
 }
 
-fn of_bytes(high: u8, low: u8) -> u16
+// The number that two bytes spell.
+pub fn of_bytes(high: u8, low: u8) -> u16
     ensures { λ word. ⌜ word ≡ high * 256 + low ⌝ }
 {
     (high as u16) * 256 + (low as u16)

@@ -11,6 +11,7 @@ mod seen;
 mod tag;
 mod words;
 
+pub use bytes::of_bytes;
 pub use field::Field;
 pub use reading::Reading;
 pub use reading::read_field;
@@ -18,3 +19,4 @@ pub use seen::Seen;
 pub use words::Found;
 pub use words::copy_words;
 pub use words::find_word;
+pub use words::write_words;

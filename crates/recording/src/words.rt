@@ -4,10 +4,11 @@ ghost use mathlib.Core.Path.{_≡_};
 ghost use Prim.Native.Nat.{_*_, _≤_};
 ghost use lib.ListN.{length};
 ghost use lib.Seq.{sets};
-ghost use Rattle.recording.specs.Bytes.{bytesLeft, wordsAt, withWords};
+ghost use Rattle.recording.specs.Bytes.{bytesLeft, wordsAt, withWords, withWritten};
 ghost use Rattle.recording.specs.AsCoded.Found.{wordFound};
 use crate::bytes;
 use crate::tag;
+use card::host;
 
 // What is found where a word field with certain marks is looked for.
 pub enum Found {
@@ -64,4 +65,20 @@ pub fn copy_words(bytes: &[u8], first: usize, count: usize, words: &mut [u16])
         return;
     }
     copy_all(bytes, first, count, words);
+}
+
+// The words of a field that writes, 64 at the most, go from the bytes to a memory.
+pub fn write_words(bytes: &[u8], first: usize, count: usize, ram: &mut [u16], address: u16)
+    ensures { λ _. ⌜ now (ram .exit)
+        ≡ withWritten (now (ram .entry)) address (now (bytes .entry)) first count ⌝ }
+{
+    if count > 64 {
+        return;
+    }
+    if bytes::bytes_left(bytes, first) < 2 * count {
+        return;
+    }
+    let mut words: [u16; 64] = [0; 64];
+    copy_all(bytes, first, count, &mut words);
+    host::write_words(ram, address, &words[0..count]);
 }

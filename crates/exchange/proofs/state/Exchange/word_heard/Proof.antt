@@ -1,7 +1,7 @@
 -- `exchange::state::Exchange::word_heard` meets its contract, by the stage. Assumes nothing.
+use mathlib.Core.Bool.{true≢false}
 use native.Mathlib.Omega.{arith}
 use borrow.Author.Needs.{needs}
-use Rattle.rules.proofs.Clash.{not-both}
 use Rattle.exchange.proofs.JudgeLaws.{reply-begins, last-stands, data-stand, words}
 use Rattle.exchange.proofs.state.Exchange.word_heard.Statement.{statement}
 use Rattle.exchange.proofs.state.Exchange.word_heard.Tie as tie
@@ -64,7 +64,7 @@ add-data-heard-2 c =
     omega (arith, reply-begins (start .before .args .order) format (start .format .ensures))
 
 data-heard-requires-2 : tie.Need-data-heard-requires-2
-data-heard-requires-2 c κs = λ is. absurd (not-both is)
+data-heard-requires-2 c κs = λ is. absurd (true≢false is)
 
 returns : tie.Need-returns
 returns c = search (needs, words)

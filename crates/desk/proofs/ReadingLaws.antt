@@ -1,0 +1,171 @@
+-- The laws of `specs/Reading.antt`, as the code comes to each reading. Assumes nothing.
+use mathlib.Core.Path.{_≡_}
+use mathlib.Core.Bool.{Bool, true, false, not, _||_}
+use mathlib.Core.List.{List}
+use Prim.Native.Nat.{ℕ, _+_, _*_, _≤_, _<_}
+use native.Mathlib.Decide.{ℕ-discrete, decLt}
+use native.Mathlib.Omega.{arith}
+use lib.Dec.{eqb}
+use lib.ListN.{length}
+use borrow.Author.Tests.{eq-eqb, ne-eqb, lt-ltb, le-ltb, not-true, not-false}
+use Rattle.recording.specs.declared.seen.Seen.{Seen}
+use Rattle.recording.specs.declared.reading.Reading.{Reading as SharedReading}
+use Rattle.recording.specs.Bytes.{bytesLeft, byteAt, wordAt}
+use Rattle.recording.specs.Reading as recording
+use Rattle.desk.specs.declared.field.Field.{Field}
+use Rattle.desk.specs.declared.field.Field.the-variants.{Setup, Start}
+use Rattle.desk.specs.declared.reading.Reading.{Reading}
+use Rattle.desk.specs.declared.reading.Reading.the-variants.{Taken, End, Refused}
+use Rattle.desk.specs.Reading.{
+  setupTag,
+  startTag,
+  ownRefusal,
+  ownAt,
+  isShared,
+  sharedAs,
+  readAt,
+}
+
+-- ---- a field of the controller's own
+
+module _ (bytes : List ℕ) (place size : ℕ) (due : Bool) where
+  -- one that is not refused stands whole
+  pub own-whole : ownRefusal bytes place size due ≡ 0 → 3 + size ≤ bytesLeft bytes place
+  unfolding ownRefusal
+  own-whole none =
+      let left : ℕ = bytesLeft bytes place in
+      elim (decLt left 3) [
+        | yes short ↦ absurd (omega (arith, rw (lt-ltb left 3 short) at none))
+        | no headed ↦
+            elim (ℕ-discrete (wordAt bytes (place + 1)) size) [
+              | no other ↦
+                  absurd (omega (
+                    arith,
+                    rw (
+                      le-ltb left 3 (omega arith),
+                      ne-eqb (wordAt bytes (place + 1)) size other,
+                    ) at none,
+                  ))
+              | yes same ↦
+                  elim (decLt left (3 + size)) [
+                    | yes cut ↦
+                        absurd (omega (
+                          arith,
+                          rw (
+                            le-ltb left 3 (omega arith),
+                            eq-eqb (wordAt bytes (place + 1)) size same,
+                            lt-ltb left (3 + size) cut,
+                          ) at none,
+                        ))
+                    | no whole ↦ omega arith
+                  ]
+            ]
+      ]
+
+-- ---- what stands at a place
+
+module _ (bytes : List ℕ) (place : ℕ) (seen : Seen) where
+  pub nothing-left : length bytes ≤ place → End ≡ readAt bytes place seen
+  unfolding readAt
+  nothing-left past = rw (eq-eqb (bytesLeft bytes place) 0 (omega arith))
+
+  module _ (some : place < length bytes) where
+    left-some : bytesLeft bytes place ≡ 0 → ⊥
+    left-some none = omega arith
+
+    module _ (number : ℕ) where
+      module _ (setup : byteAt bytes place ≡ setupTag)
+          (is : number ≡ ownRefusal bytes place 4 (not (seen .setup))) where
+        pub setup-refused : (number ≡ 0 → ⊥) → Refused number ≡ readAt bytes place seen
+        unfolding readAt ownAt
+        setup-refused other =
+            rw (
+              ne-eqb (bytesLeft bytes place) 0 left-some,
+              eq-eqb (byteAt bytes place) setupTag setup,
+              ← is,
+              ne-eqb number 0 other,
+            )
+
+        pub setup-taken : (control count next : ℕ) → number ≡ 0
+            → control ≡ byteAt bytes (place + 3) * 256 + byteAt bytes (place + 4)
+            → count ≡ byteAt bytes (place + 5) * 256 + byteAt bytes (place + 6)
+            → next ≡ place + 7
+            → Taken (Setup control count) next ≡ readAt bytes place seen
+        unfolding readAt ownAt
+        setup-taken control count next none is-control is-count is-next =
+            let four : place + 4 ≡ place + 3 + 1 = omega arith in
+            let six : place + 6 ≡ place + 5 + 1 = omega arith in
+            let seven : place + 3 + 4 ≡ next = omega arith in
+            rw (
+              ne-eqb (bytesLeft bytes place) 0 left-some,
+              eq-eqb (byteAt bytes place) setupTag setup,
+              ← is,
+              eq-eqb number 0 none,
+              is-control,
+              is-count,
+              four,
+              six,
+              seven,
+            )
+
+      module _ (start : byteAt bytes place ≡ startTag)
+          (is : number ≡ ownRefusal bytes place 0 (seen .setup)) where
+        pub start-refused : (number ≡ 0 → ⊥) → Refused number ≡ readAt bytes place seen
+        unfolding readAt ownAt
+        start-refused other =
+            rw (
+              ne-eqb (bytesLeft bytes place) 0 left-some,
+              start,
+              ← is,
+              ne-eqb number 0 other,
+            )
+
+        pub start-taken : (next : ℕ) → number ≡ 0 → next ≡ place + 3
+            → Taken Start next ≡ readAt bytes place seen
+        unfolding readAt ownAt
+        start-taken next none is-next =
+            let three : place + 3 + 0 ≡ next = omega arith in
+            rw (
+              ne-eqb (bytesLeft bytes place) 0 left-some,
+              start,
+              ← is,
+              eq-eqb number 0 none,
+              three,
+            )
+
+    module _ (no-setup : byteAt bytes place ≡ setupTag → ⊥)
+        (no-start : byteAt bytes place ≡ startTag → ⊥) where
+      pub tag-unknown : not (isShared (byteAt bytes place)) ≡ true
+          → Refused 6 ≡ readAt bytes place seen
+      unfolding readAt
+      tag-unknown other =
+          rw (
+            ne-eqb (bytesLeft bytes place) 0 left-some,
+            ne-eqb (byteAt bytes place) setupTag no-setup,
+            ne-eqb (byteAt bytes place) startTag no-start,
+            not-true (isShared (byteAt bytes place)) other,
+          )
+
+      pub tag-shared : (reading : Reading) (shared : SharedReading)
+          → not (isShared (byteAt bytes place)) ≡ false
+          → shared ≡ recording.readAt bytes place seen → reading ≡ sharedAs shared
+          → reading ≡ readAt bytes place seen
+      unfolding readAt
+      tag-shared reading shared known is same =
+          rw (
+            ne-eqb (bytesLeft bytes place) 0 left-some,
+            ne-eqb (byteAt bytes place) setupTag no-setup,
+            ne-eqb (byteAt bytes place) startTag no-start,
+            not-false (isShared (byteAt bytes place)) known,
+            ← is,
+          ) same
+
+pub ruleset readings = (
+  nothing-left,
+  setup-refused,
+  setup-taken,
+  start-refused,
+  start-taken,
+  tag-unknown,
+  tag-shared,
+)
