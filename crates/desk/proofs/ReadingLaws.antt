@@ -62,6 +62,64 @@ module _ (bytes : List ℕ) (place size : ℕ) (due : Bool) where
             ]
       ]
 
+  -- the number, test by test
+  module _ (left told : ℕ) (is-left : left ≡ bytesLeft bytes place)
+      (is-told : told ≡ byteAt bytes (place + 1) * 256 + byteAt bytes (place + 2)) where
+    same-length : told ≡ wordAt bytes (place + 1)
+    same-length =
+        let two : place + 2 ≡ place + 1 + 1 = omega arith in
+        rw (is-told, two)
+
+    module _ (headed : 3 ≤ left) where
+      pub other-length : (told ≡ size → ⊥) → 7 ≡ ownRefusal bytes place size due
+      unfolding ownRefusal
+      other-length other =
+          rw (← is-left, ← same-length, le-ltb left 3 headed, ne-eqb told size other)
+
+      module _ (same : told ≡ size) where
+        pub value-cut : left < 3 + size → 5 ≡ ownRefusal bytes place size due
+        unfolding ownRefusal
+        value-cut cut =
+            rw (
+              ← is-left,
+              ← same-length,
+              le-ltb left 3 headed,
+              eq-eqb told size same,
+              lt-ltb left (3 + size) cut,
+            )
+
+        module _ (whole : 3 + size ≤ left) where
+          pub not-in-order : not due ≡ true → 9 ≡ ownRefusal bytes place size due
+          unfolding ownRefusal
+          not-in-order turned =
+              rw (
+                ← is-left,
+                ← same-length,
+                le-ltb left 3 headed,
+                eq-eqb told size same,
+                le-ltb left (3 + size) whole,
+                turned,
+              )
+
+          pub stands : not due ≡ false → 0 ≡ ownRefusal bytes place size due
+          unfolding ownRefusal
+          stands in-order =
+              rw (
+                ← is-left,
+                ← same-length,
+                le-ltb left 3 headed,
+                eq-eqb told size same,
+                le-ltb left (3 + size) whole,
+                in-order,
+              )
+
+  pub length-cut : (left : ℕ) → left ≡ bytesLeft bytes place → left < 3
+      → 5 ≡ ownRefusal bytes place size due
+  unfolding ownRefusal
+  length-cut left is-left short = rw (← is-left, lt-ltb left 3 short)
+
+pub ruleset own-refusals = (length-cut, other-length, value-cut, not-in-order, stands)
+
 -- ---- what stands at a place
 
 module _ (bytes : List ℕ) (place : ℕ) (seen : Seen) where

@@ -1,9 +1,6 @@
 // What a field does: a setup makes the controller anew, a start gives words, a word or a silence
 // comes back, a write goes to the memory.
 ghost use mathlib.Core.Path.{_≡_};
-ghost use Prim.Native.Nat.{_*_, _≤_};
-ghost use lib.Seq.{sets};
-ghost use Rattle.recording.specs.Bytes.{bytesLeft, wordsAt};
 ghost use Rattle.recording.specs.Value.{valuedAt};
 ghost use Rattle.controller.specs.declared.state.Result.the-variants.{Absent};
 ghost use Rattle.controller.specs.State.{desk};
@@ -13,7 +10,6 @@ ghost use Rattle.desk.specs.Deed.{done, sharedDeed, deedOf};
 ghost use Rattle.desk.specs.AsCoded.Held.{WordsThere};
 use crate::field::Field;
 use bus::word;
-use card::host;
 use controller::start::Given;
 use controller::state::Controller;
 use controller::state::Result;
@@ -32,17 +28,6 @@ pub struct Done {
     pub refusal: u8,
     pub answer: Answer,
     pub controller: Controller,
-}
-
-// The words of a write go from the window to the memory.
-fn write_words(ram: &mut [u16], window: &[u8], address: u16, first: usize, count: usize)
-    requires { ⌜ (count ≤ 64) × (2 * count ≤ bytesLeft (now window) first) ⌝ }
-    ensures { λ _. ⌜ now (ram .exit)
-        ≡ sets (now (ram .entry)) address (wordsAt (now (window .entry)) first count) ⌝ }
-{
-    let mut words: [u16; 64] = [0; 64];
-    recording::copy_words(window, first, count, &mut words);
-    host::write_words(ram, address, &words[0..count]);
 }
 
 // Nothing comes of it.
@@ -102,7 +87,7 @@ fn do_shared(
             first,
             count,
         } => {
-            write_words(ram, window, address, first, count);
+            recording::write_words(window, first, count, ram, address);
             quietly(controller)
         }
         recording::Field::MoveTable { table: _ } => quietly(controller),

@@ -1,7 +1,6 @@
 -- `desk::reading::own_refusal` meets its contract, by the cases of its tests. Assumes nothing.
 use borrow.Author.Needs.{needs}
-use Rattle.rules.proofs.Cases.{cases, turned}
-use Rattle.desk.specs.Reading.{ownRefusal}
+use Rattle.desk.proofs.ReadingLaws.{own-refusals}
 use Rattle.desk.proofs.reading.own_refusal.Statement.{statement}
 use Rattle.desk.proofs.reading.own_refusal.Tie as tie
 
@@ -9,8 +8,7 @@ sub-left : tie.Need-sub-left
 sub-left c = search needs
 
 returns : tie.Need-returns
-unfolding ownRefusal
-returns c = search (needs, cases, turned) depth 9
+returns c = search (needs, own-refusals)
 
 add-of-bytes : tie.Need-add-of-bytes
 add-of-bytes c = search needs
@@ -31,23 +29,19 @@ cast-told : tie.Need-cast-told
 cast-told c = search needs
 
 returns-2 : tie.Need-returns-2
-unfolding ownRefusal
-returns-2 c = search (needs, cases, turned) depth 9
+returns-2 c = search (needs, own-refusals)
 
 add-if3 : tie.Need-add-if3
 add-if3 c = search needs
 
 returns-3 : tie.Need-returns-3
-unfolding ownRefusal
-returns-3 c = search (needs, cases, turned) depth 9
+returns-3 c = search (needs, own-refusals)
 
 returns-4 : tie.Need-returns-4
-unfolding ownRefusal
-returns-4 c = search (needs, cases, turned) depth 9
+returns-4 c = search (needs, own-refusals)
 
 returns-5 : tie.Need-returns-5
-unfolding ownRefusal
-returns-5 c = search (needs, cases, turned) depth 9
+returns-5 c = search (needs, own-refusals)
 
 pub own-refusal-spec : {M : Type 1} → statement M
 own-refusal-spec =

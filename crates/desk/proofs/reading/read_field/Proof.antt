@@ -1,4 +1,6 @@
 -- `desk::reading::read_field` meets its contract, tag by tag. Assumes nothing.
+use mathlib.Core.Bool.{not}
+use native.Mathlib.Omega.{arith}
 use borrow.Author.Needs.{needs}
 use Rattle.desk.proofs.ReadingLaws.{own-whole, readings}
 use Rattle.desk.proofs.reading.read_field.Statement.{statement}
@@ -20,13 +22,23 @@ add-of-bytes : tie.Need-add-of-bytes
 add-of-bytes c = search needs
 
 shared-slice-read-of-bytes : tie.Need-shared-slice-read-of-bytes
-shared-slice-read-of-bytes c = ?
+shared-slice-read-of-bytes c =
+    let start = c .before .before .before .before .before .before .before in
+    omega (
+      arith,
+      own-whole (start .args .bytes .now) (start .args .place) 4 (not (start .args .seen .setup)) (search needs),
+    )
 
 add-of-bytes-2 : tie.Need-add-of-bytes-2
 add-of-bytes-2 c = search needs
 
 shared-slice-read-of-bytes-2 : tie.Need-shared-slice-read-of-bytes-2
-shared-slice-read-of-bytes-2 c = ?
+shared-slice-read-of-bytes-2 c =
+    let start = c .before .before .before .before .before .before .before .before in
+    omega (
+      arith,
+      own-whole (start .args .bytes .now) (start .args .place) 4 (not (start .args .seen .setup)) (search needs),
+    )
 
 of-bytes-requires : tie.Need-of-bytes-requires
 of-bytes-requires c κs = search needs
@@ -35,13 +47,23 @@ add-of-bytes-3 : tie.Need-add-of-bytes-3
 add-of-bytes-3 c = search needs
 
 shared-slice-read-of-bytes-3 : tie.Need-shared-slice-read-of-bytes-3
-shared-slice-read-of-bytes-3 c = ?
+shared-slice-read-of-bytes-3 c =
+    let start = c .before .before .before .before .before .before .before .before .before .before in
+    omega (
+      arith,
+      own-whole (start .args .bytes .now) (start .args .place) 4 (not (start .args .seen .setup)) (search needs),
+    )
 
 add-of-bytes-4 : tie.Need-add-of-bytes-4
 add-of-bytes-4 c = search needs
 
 shared-slice-read-of-bytes-4 : tie.Need-shared-slice-read-of-bytes-4
-shared-slice-read-of-bytes-4 c = ?
+shared-slice-read-of-bytes-4 c =
+    let start = c .before .before .before .before .before .before .before .before .before .before .before in
+    omega (
+      arith,
+      own-whole (start .args .bytes .now) (start .args .place) 4 (not (start .args .seen .setup)) (search needs),
+    )
 
 of-bytes-requires-2 : tie.Need-of-bytes-requires-2
 of-bytes-requires-2 c κs = search needs

@@ -1,63 +1,55 @@
+-- `desk::window::run_window` meets its contract, by the laws of its loop. Assumes nothing.
+use borrow.Author.Needs.{needs}
+use Rattle.pieces.specs.AsCoded.Window.{windowRun}
+use Rattle.desk.specs.AsCoded.Held.{passedOf}
+use Rattle.desk.proofs.LoopLaws.{Leads, leads-on, leading}
 use Rattle.desk.proofs.window.run_window.Statement.{statement}
 use Rattle.desk.proofs.window.run_window.Tie as tie
-use Rattle.desk.proofs.window.run_window.Reads as reads
-use Rattle.desk.proofs.window.run_window.Lts as lts
-use Rattle.desk.proofs.window.turn.Reads as turn-reads
-use Rattle.pieces.proofs.stop.Stop.is_going.Reads as is-going-reads
 
 abbrev Inv-loop : tie.InvT-loop
-Inv-loop ram₀ window out₀ last passed₀ turns₀ ram out passed turns = ?
+Inv-loop ram₀ window out₀ last ran₀ turns₀ ram out ran turns =
+    Leads window last (passedOf ran₀ ram₀ out₀) turns₀ (passedOf ran ram out) turns
 
 abbrev μ-loop : tie.MeasureT-loop
-μ-loop ram₀ window out₀ last passed₀ turns₀ ram out passed turns = ?
+μ-loop ram₀ window out₀ last ran₀ turns₀ ram out ran turns = turns
 
--- src/window.rt:141:5
 loop-holds : tie.Need-loop-holds Inv-loop μ-loop
-loop-holds c = ?
+loop-holds c = search (needs, leading) depth 9
 
--- src/window.rt:143:13
 is-going-requires : tie.Need-is-going-requires Inv-loop μ-loop
-is-going-requires c κs = ?
+is-going-requires c κs = search (needs, leading) depth 9
 
--- src/window.rt:146:9
 turn-requires : tie.Need-turn-requires Inv-loop μ-loop
-turn-requires c κs = ?
+turn-requires c κs = search (needs, leading) depth 9
 
--- src/window.rt:147:9
 sub-turns : tie.Need-sub-turns Inv-loop μ-loop
-sub-turns c = ?
+sub-turns c = search (needs, leading) depth 9
 
--- src/window.rt:141:5
 loop-less : tie.Need-loop-less Inv-loop μ-loop
-loop-less c = ?
+loop-less c = search (needs, leading) depth 9
 
--- src/window.rt:141:5
 loop-again : tie.Need-loop-again Inv-loop μ-loop
-loop-again c = ?
+loop-again c = search (needs, leading) depth 9
 
--- src/window.rt:123:1
 same-length : tie.Need-same-length Inv-loop μ-loop
-same-length c = ?
+same-length c = search (needs, leading) depth 9
 
--- src/window.rt:123:1
 same-length-2 : tie.Need-same-length-2 Inv-loop μ-loop
-same-length-2 c = ?
+same-length-2 c = search (needs, leading) depth 9
 
--- src/window.rt:123:1
 returns : tie.Need-returns Inv-loop μ-loop
-returns c = ?
+unfolding windowRun
+returns c = search (needs, leading) depth 9
 
--- src/window.rt:123:1
 same-length-3 : tie.Need-same-length-3 Inv-loop μ-loop
-same-length-3 c = ?
+same-length-3 c = search (needs, leading) depth 9
 
--- src/window.rt:123:1
 same-length-4 : tie.Need-same-length-4 Inv-loop μ-loop
-same-length-4 c = ?
+same-length-4 c = search (needs, leading) depth 9
 
--- src/window.rt:123:1
 returns-2 : tie.Need-returns-2 Inv-loop μ-loop
-returns-2 c = ?
+unfolding windowRun
+returns-2 c = search (needs, leading) depth 9
 
 pub run-window-spec : {M : Type 1} → statement M
 run-window-spec =

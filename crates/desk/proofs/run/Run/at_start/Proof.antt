@@ -12,7 +12,7 @@ nothing-requires c κs = search needs
 
 returns : tie.Need-returns
 unfolding heldAtStart
-returns c = search needs
+returns c = cc
 
 pub at-start-spec : {M : Type 1} → statement M
 at-start-spec = tie.close (tie.spec setup-requires nothing-requires returns)
