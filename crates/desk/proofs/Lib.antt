@@ -6,6 +6,7 @@
 --     LineLaws       the lines, as the code writes them
 --     TurnLaws       one field of a window
 --     LoopLaws       field after field
+--     Determined     each public contract allows one outcome alone
 pub mod ReadingLaws
 pub mod RunLaws
 pub mod TakenLaws
@@ -13,3 +14,4 @@ pub mod DeedLaws
 pub mod LineLaws
 pub mod TurnLaws
 pub mod LoopLaws
+pub mod Determined

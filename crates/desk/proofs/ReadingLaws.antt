@@ -1,6 +1,6 @@
 -- The laws of `specs/Reading.antt`, as the code comes to each reading. Assumes nothing.
-use mathlib.Core.Path.{_≡_}
-use mathlib.Core.Bool.{Bool, true, false, not, _||_}
+use mathlib.Core.Path.{_≡_, sym}
+use mathlib.Core.Bool.{Bool, true, false, true≢false, cond, not}
 use mathlib.Core.List.{List}
 use Prim.Native.Nat.{ℕ, _+_, _*_, _≤_, _<_}
 use native.Mathlib.Decide.{ℕ-discrete, decLt}
@@ -27,6 +27,11 @@ use Rattle.desk.specs.Reading.{
 }
 
 -- ---- a field of the controller's own
+
+-- neither 9 nor 0 waits for bytes
+due-waits : (due : Bool) → eqb (cond (not due) 9 0) 5 ≡ true → ⊥
+due-waits true five = true≢false (sym five)
+due-waits false five = true≢false (sym five)
 
 module _ (bytes : List ℕ) (place size : ℕ) (due : Bool) where
   -- one that is not refused stands whole
@@ -59,6 +64,30 @@ module _ (bytes : List ℕ) (place size : ℕ) (due : Bool) where
                         ))
                     | no whole ↦ omega arith
                   ]
+            ]
+      ]
+
+  -- one that waits for bytes does not
+  pub own-waits : eqb (ownRefusal bytes place size due) 5 ≡ true → bytesLeft bytes place < 3 + size
+  unfolding ownRefusal
+  own-waits five =
+      let left : ℕ = bytesLeft bytes place in
+      elim (decLt left (3 + size)) [
+        | yes cut ↦ cut
+        | no whole ↦
+            elim (ℕ-discrete (wordAt bytes (place + 1)) size) [
+              | no other ↦
+                  let seven : eqb 7 5 ≡ true =
+                  rw (
+                    le-ltb left 3 (omega arith),
+                    ne-eqb (wordAt bytes (place + 1)) size other,
+                  ) at five in
+                  absurd (true≢false (sym seven))
+              | yes same ↦ absurd (due-waits due (rw (
+                le-ltb left 3 (omega arith),
+                eq-eqb (wordAt bytes (place + 1)) size same,
+                le-ltb left (3 + size) (omega arith),
+              ) at five))
             ]
       ]
 

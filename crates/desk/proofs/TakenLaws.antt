@@ -1,7 +1,7 @@
 -- What a reading tells of the bytes (`reading-tells`), and what a field that was read brings: it
 -- ends further on, inside the bytes, and the words of a write stand there. Assumes nothing.
 use mathlib.Core.Path.{_≡_, refl, sym, subst, _∙_}
-use mathlib.Core.Bool.{Bool, true, false, not}
+use mathlib.Core.Bool.{Bool, true, false, true≢false, not}
 use mathlib.Core.List.{List}
 use Prim.Native.Nat.{ℕ, _+_, _*_, _≤_, _<_}
 use native.Mathlib.Omega.{arith}
@@ -19,6 +19,8 @@ use Rattle.recording.specs.Reading as recording
 use Rattle.recording.proofs.TakenLaws.{taken-within}
 use Rattle.recording.proofs.InOrder.{taken-in-order}
 use Rattle.recording.proofs.TakenWords.{taken-words-there}
+use Rattle.recording.proofs.WaitingLaws.{few-at-the-end, few-at-a-refusal}
+use Rattle.pieces.specs.Course.{mayGoOn}
 use Rattle.desk.specs.declared.field.Field.{Field}
 use Rattle.desk.specs.declared.field.Field.the-variants.{Setup, Start, Shared}
 use Rattle.desk.specs.declared.reading.Reading.{Reading}
@@ -33,7 +35,11 @@ use Rattle.desk.specs.Reading.{
   readAt,
 }
 use Rattle.desk.specs.AsCoded.Held.{WordsThere, WasRead}
-use Rattle.desk.proofs.ReadingLaws.{own-whole}
+use Rattle.desk.proofs.ReadingLaws.{own-whole, own-waits}
+
+-- no field has more bytes
+abbrev pub longest : ℕ
+longest = 133
 
 module _ (bytes : List ℕ) (place : ℕ) (seen : Seen) where
   -- where the next field begins
@@ -42,8 +48,9 @@ module _ (bytes : List ℕ) (place : ℕ) (seen : Seen) where
     pub ends-inside : next ≤ length bytes
 
   pub data Tells : Reading → Type 0 where
-    the-end : Tells End
-    a-refusal : {number : ℕ} → Tells (Refused number)
+    the-end : length bytes < place + longest → Tells End
+    a-refusal : (number : ℕ) → (mayGoOn number ≡ true → length bytes < place + longest)
+        → Tells (Refused number)
     a-setup : {control count next : ℕ} → Within next → Tells (Taken (Setup control count) next)
     a-start : {next : ℕ} → Within next → Tells (Taken Start next)
     a-shared : {field : SharedField} {next : ℕ} → Within next
@@ -56,6 +63,17 @@ module _ (bytes : List ℕ) (place : ℕ) (seen : Seen) where
       let whole = own-whole bytes place size due (eqb-true (ownRefusal bytes place size due) 0 none) in
       record { moves-on = omega arith; ends-inside = omega (arith, whole) }
 
+  own-refused : (size : ℕ) (due : Bool) → size ≤ 4
+      → eqb (ownRefusal bytes place size due) 0 ≡ false
+      → Tells (Refused (ownRefusal bytes place size due))
+  own-refused size due short some =
+      a-refusal (ownRefusal bytes place size due) (λ wait.
+      omega (
+        arith,
+        own-waits bytes place size due
+        (rw some at wait),
+      ))
+
   shared-tells : (reading : SharedReading) → recording.readAt bytes place seen ≡ reading
       → Tells (sharedAs reading)
   shared-tells (shared.Taken field next) is =
@@ -63,22 +81,26 @@ module _ (bytes : List ℕ) (place : ℕ) (seen : Seen) where
       a-shared
       (record { moves-on = within .moves-on; ends-inside = within .ends-inside })
       is
-  shared-tells shared.End is = the-end
-  shared-tells (shared.Refused number named) is = a-refusal
+  shared-tells shared.End is = the-end (few-at-the-end bytes place seen is)
+  shared-tells (shared.Refused number named) is = a-refusal number (few-at-a-refusal bytes place seen is)
 
   pub reading-tells : Tells (readAt bytes place seen)
   unfolding readAt ownAt
   reading-tells =
       let tag : ℕ = byteAt bytes place in
-      by-test Tells (eqb (bytesLeft bytes place) 0) (λ _. the-end) (λ _.
+      by-test Tells (eqb (bytesLeft bytes place) 0)
+      (λ none. the-end (omega (arith, eqb-true (bytesLeft bytes place) 0 none))) (λ _.
       by-test Tells (eqb tag setupTag)
       (λ _. by-test Tells (eqb (ownRefusal bytes place 4 (not (seen .setup))) 0)
-      (λ none. a-setup (own-within 4 (not (seen .setup)) none)) (λ _. a-refusal))
+      (λ none. a-setup (own-within 4 (not (seen .setup)) none))
+      (λ some. own-refused 4 (not (seen .setup)) (omega arith) some))
       (λ _. by-test Tells (eqb tag startTag)
       (λ _. by-test Tells (eqb (ownRefusal bytes place 0 (seen .setup)) 0)
-      (λ none. a-start (own-within 0 (seen .setup) none)) (λ _. a-refusal))
+      (λ none. a-start (own-within 0 (seen .setup) none))
+      (λ some. own-refused 0 (seen .setup) (omega arith) some))
       (λ _. by-test Tells (isShared tag)
-      (λ _. shared-tells (recording.readAt bytes place seen) refl) (λ _. a-refusal))))
+      (λ _. shared-tells (recording.readAt bytes place seen) refl)
+      (λ _. a-refusal 6 (λ never. absurd (true≢false (sym never)))))))
 
   -- ---- a field that was read
 

@@ -4,6 +4,7 @@ use mathlib.Core.Bool.{Bool, cond}
 use mathlib.Core.List.{List}
 use Prim.Native.Nat.{ℕ, _+_, _-_, _≤_, _<_, _%_, _^_}
 use native.Mathlib.Omega.{arith}
+use lib.Dec.{eqb}
 use lib.ListN.{length}
 use borrow.Author.Tests.{eq-eqb, ne-eqb, lt-ltb, le-ltb}
 use Rattle.rules.proofs.Choices.{by-test}
@@ -16,6 +17,7 @@ use Rattle.formats.specs.Code.{codedBy}
 use Rattle.lines.specs.Written.{put, lineRoom, lineWritten}
 use Rattle.pieces.specs.declared.stop.Stop.{Stop}
 use Rattle.pieces.specs.declared.stop.Stop.the-variants.{Going, Full}
+use Rattle.pieces.specs.Course.{mayGoOn}
 use Rattle.pieces.specs.AsCoded.Window as pieces
 use Rattle.controller.specs.Control.{codeIn}
 use Rattle.controller.specs.State.{Desk, desk}
@@ -64,6 +66,30 @@ refused-changes-nothing bytes (Setup control count) old other = absurd (other re
 refused-changes-nothing bytes Start old other = start-refused old other
 refused-changes-nothing bytes (Shared field) old other =
     absurd (other (shared-not-refused (valuedAt bytes field) old))
+
+-- ---- a refusal is 14: none waits for bytes
+
+code-by-14 : (coded : Coded) (old : Desk)
+    → mayGoOn (startingBy coded old .refusal) ≡ eqb (startingBy coded old .refusal) 0
+unfolding startingBy starting
+code-by-14 (Format row broadcast) old = refl
+code-by-14 Lacking old = refl
+
+start-by-14 : (old : Desk) → mayGoOn (startStep old .refusal) ≡ eqb (startStep old .refusal) 0
+unfolding startStep
+start-by-14 old =
+    by-test (λ (started : Started). mayGoOn (started .refusal) ≡ eqb (started .refusal) 0)
+    (mayStart (old .state))
+    (λ may. code-by-14 (codedBy (codeIn (old .state .control))) old)
+    (λ may-not. refl)
+
+pub refused-by-14 : (bytes : List ℕ) (field : Field) (old : Desk)
+    → mayGoOn (deedOf bytes field old .refusal) ≡ eqb (deedOf bytes field old .refusal) 0
+unfolding deedOf
+refused-by-14 bytes (Setup control count) old = refl
+refused-by-14 bytes Start old = start-by-14 old
+refused-by-14 bytes (Shared field) old =
+    rw (shared-not-refused (valuedAt bytes field) old)
 
 -- ---- a field that was read
 

@@ -9,6 +9,7 @@
 --     OfBytes        of bytes the reader never gives 3
 --     InOrder        every field that is taken is in order
 --     MoreBytes      bytes that come behind change no reading that is settled
+--     WaitingLaws      where the reader waits, few bytes are left
 --     TakenWords     the words of a host write that was taken
 --     Shifted        a recording read as if it began further on
 --     ValueLaws      the values of a field, wherever it stands
@@ -26,6 +27,7 @@ pub mod FoundLaws
 pub mod OfBytes
 pub mod InOrder
 pub mod MoreBytes
+pub mod WaitingLaws
 pub mod TakenWords
 pub mod Shifted
 pub mod ValueLaws

@@ -1,26 +1,19 @@
 -- The course of a tray run is steady, so that a recording may come in pieces: `tray-is-steady`. No
 -- field has more than 133 bytes. Assumes nothing.
 use mathlib.Core.Path.{_≡_, refl, ap, subst, _∙_}
-use mathlib.Core.Bool.{Bool, true, false, true≢false}
+use mathlib.Core.Bool.{true, false, true≢false}
 use mathlib.Core.List.{List, [], _++_}
 use Prim.Native.Nat.{ℕ, _+_, _-_, _≤_, _<_}
-use native.Mathlib.Decide.{decLt}
 use native.Mathlib.Omega.{arith}
-use lib.Dec.{eqb}
 use lib.ListN.{length, drop}
-use borrow.Author.Tests.{eqb-true}
 use Rattle.rules.proofs.Clash.{clash}
-use Rattle.recording.specs.declared.seen.Seen.{Seen}
 use Rattle.recording.specs.declared.reading.Reading.{Reading}
 use Rattle.recording.specs.declared.reading.Reading.the-variants.{Taken, End, Refused}
 use Rattle.recording.specs.Reading.{readAt}
-use Rattle.recording.specs.AsCoded.Pieces.{isSettled, shifted}
-use Rattle.recording.proofs.TakenLaws.{isReaderNumber, taken-within, refused-names-place}
-use Rattle.recording.proofs.MoreBytes.{
-  more-bytes-same-field,
-  more-bytes-same-refusal,
-  settled-by-133,
-}
+use Rattle.recording.specs.AsCoded.Pieces.{shifted}
+use Rattle.recording.proofs.TakenLaws.{taken-within}
+use Rattle.recording.proofs.MoreBytes.{more-bytes-same-field, more-bytes-same-refusal}
+use Rattle.recording.proofs.WaitingLaws.{few-at-the-end, few-at-a-refusal}
 use Rattle.recording.proofs.Shifted.{seen-of-shifted, dropped-bytes}
 use Rattle.recording.proofs.ValueLaws.{more-bytes-same-values, shifted-values}
 use Rattle.lines.specs.Written.{lineRoom}
@@ -77,29 +70,6 @@ module _ (old : Tray) (bytes behind : List ℕ) where
 
 -- ---- a reading that waits for bytes
 
--- it waits at the end of the bytes or at refusal 5, which no 133 bytes leave
-few-unsettled : (bytes : List ℕ) (place : ℕ) (seen : Seen)
-    → isSettled (readAt bytes place seen) ≡ false → length bytes < place + 133
-few-unsettled bytes place seen unsettled =
-    elim (decLt (length bytes) (place + 133)) [
-      | yes few ↦ few
-      | no many ↦
-          let settled : isSettled (readAt bytes place seen) ≡ true =
-          settled-by-133 bytes place seen (omega arith) in
-          absurd (clash (cc))
-    ]
-
--- no refusal has number 0, so one that may go on has number 5
-number-waits : (number : ℕ) → isReaderNumber number ≡ true → mayGoOn number ≡ true
-    → eqb number 5 ≡ true
-number-waits number told may = go (eqb number 0) refl where
-  go : (none : Bool) → eqb number 0 ≡ none → eqb number 5 ≡ true
-  go true is =
-      let wrong : false ≡ true =
-      subst (λ (any : ℕ). isReaderNumber any ≡ true) (eqb-true number 0 is) told in
-      absurd (clash (cc))
-  go false is = rw is at may
-
 few-wait : (old : Tray) (bytes : List ℕ) (at : ℕ) → waits (trayCourse .meets old bytes at) ≡ true
     → length bytes < at + 133
 unfolding trayCourse metBy
@@ -107,11 +77,8 @@ few-wait old bytes at = go (readAt bytes at (old .seen)) refl where
   go : (reading : Reading) → readAt bytes at (old .seen) ≡ reading
       → waits (metBy reading bytes at old) ≡ true → length bytes < at + 133
   go (Taken field next) is wait = absurd (clash (cc))
-  go End is wait = few-unsettled bytes at (old .seen) (ap isSettled is)
-  go (Refused number named) is wait =
-      let five : eqb number 5 ≡ true =
-      number-waits number (refused-names-place bytes at (old .seen) is .of-the-reader) wait in
-      few-unsettled bytes at (old .seen) (ap isSettled is ∙ rw five)
+  go End is wait = few-at-the-end bytes at (old .seen) is
+  go (Refused number named) is wait = few-at-a-refusal bytes at (old .seen) is wait
 
 -- ---- all that is asked
 
