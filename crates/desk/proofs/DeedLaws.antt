@@ -62,7 +62,7 @@ module _ (told : SharedField) (window ram : List ℕ) (controller : Controller) 
         is-left,
         is-ram,
         words-written ram window address first count (there .few address first count named)
-        (there .there address first count named),
+            (there .there address first count named),
       )
 
   module _ (left : HeldDone) (is-left : left ≡ quiet controller) where

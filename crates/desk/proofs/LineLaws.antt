@@ -41,7 +41,7 @@ few-given-words ram block count = go (eqb number 0) refl where
       omega (
         arith,
         shown deskBlocks controller.mostGiven (length ram) block count (eqb-true number 0 is)
-        .at-most,
+            .at-most,
         length-take count (drop (wordAddress block (theCell 0)) ram),
       )
   go false is = omega arith

@@ -71,7 +71,7 @@ module _ (bytes : List ℕ) (place : ℕ) (seen : Seen) where
       omega (
         arith,
         own-waits bytes place size due
-        (rw some at wait),
+            (rw some at wait),
       ))
 
   shared-tells : (reading : SharedReading) → recording.readAt bytes place seen ≡ reading

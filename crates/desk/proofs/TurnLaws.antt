@@ -96,7 +96,7 @@ refused-by-14 bytes (Shared field) old =
 module _ (ran : HeldPassed) (ram out window : List ℕ) (last : Bool) (told : Field) (next : ℕ)
     (left : HeldDone) (ram′ : List ℕ)
     (is-left : done (left .refusal) (left .answer) (desk (left .controller) ram′)
-      ≡ deedOf window told (desk (ran .run .controller) ram)) where
+    ≡ deedOf window told (desk (ran .run .controller) ram)) where
   abbrev old : pieces.Passed Run
   old = passedOf ran ram out
 

@@ -96,12 +96,7 @@ fn do_shared(
 }
 
 // What a field does.
-pub(crate) fn do_field(
-    controller: Controller,
-    ram: &mut [u16],
-    window: &[u8],
-    field: Field,
-) -> Done
+pub(crate) fn do_field(controller: Controller, ram: &mut [u16], window: &[u8], field: Field) -> Done
     requires { ⌜ WordsThere (now window) field ⌝ }
     ensures { λ left. ⌜ done (left .refusal) (left .answer)
         (desk (left .controller) (now (ram .exit)))

@@ -19,7 +19,10 @@ impl Field {
         ensures { λ after. ⌜ after ≡ seenAfter self seen ⌝ }
     {
         match self {
-            Field::Setup { control: _, count: _ } => Seen { setup: true },
+            Field::Setup {
+                control: _,
+                count: _,
+            } => Seen { setup: true },
             Field::Start => seen,
             Field::Shared(_) => seen,
         }

@@ -60,14 +60,7 @@ fn take_field(
     let controller = run.controller;
     let deed = deed::do_field(controller, ram, window, field);
     if deed.refusal != 0 {
-        let end = pieces::stop_at(
-            out,
-            passed.put,
-            deed.refusal,
-            last,
-            run.fields,
-            run.offset,
-        );
+        let end = pieces::stop_at(out, passed.put, deed.refusal, last, run.fields, run.offset);
         let stop = end.stop;
         return passed.with_stop(end.put, stop);
     }
@@ -120,13 +113,7 @@ fn turn(passed: Passed, ram: &mut [u16], window: &[u8], out: &mut [u8], last: bo
 
 // Every whole field of the window, from its first byte on, and their lines from the buffer's first
 // byte on. `last`: no more bytes will come.
-pub fn run_window(
-    run: Run,
-    ram: &mut [u16],
-    window: &[u8],
-    out: &mut [u8],
-    last: bool,
-) -> Passed
+pub fn run_window(run: Run, ram: &mut [u16], window: &[u8], out: &mut [u8], last: bool) -> Passed
     ensures { λ left. ⌜ passedOf left (now (ram .exit)) (now (out .exit))
         ≡ windowRun deskCourse (runOf run (now (ram .entry)))
         (now (window .entry)) last (now (out .entry)) ⌝ }

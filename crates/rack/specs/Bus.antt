@@ -101,7 +101,7 @@ carry (suc more) line clock waiting old =
     cond (isIdle (new .desk .state .message) && isNone replies) new
     (carry more line clock replies new)
 
--- more than any message of terminals takes whose statuses have their own address
+-- more than any message takes where the stations differ and each status has its own address
 abbrev pub mostTurns : ℕ
 mostTurns = 8
 

@@ -6,9 +6,11 @@
 --     Terminals    any number of terminals
 --     Asked        what is asked of a message
 --     SameWords    what is then the same at both ends
+--     Ending       that every message ends, and how soon
 pub mod Segment
 pub mod Hearing
 pub mod Bus
 pub mod Terminals
 pub mod Asked
 pub mod SameWords
+pub mod Ending

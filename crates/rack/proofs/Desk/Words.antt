@@ -1,0 +1,119 @@
+-- The words of an answer at the controller: a status stands behind the words given, its data words
+-- stand behind it, `answer-stored`, and a last status behind these. For every row. Assumes nothing.
+use mathlib.Core.Path.{_≡_, ap, _∙_}
+use mathlib.Core.Bool.{Bool, false, _||_}
+use mathlib.Core.List.{List, [], _∷_}
+use Prim.Native.Nat.{ℕ, suc, _+_, _≤_, _<_}
+use native.Mathlib.Nat.{add-zero, zero-add}
+use native.Mathlib.Omega.{arith}
+use lib.ListN.{length}
+use borrow.Author.Tests.{eq-eqb, lt-leb}
+use Rattle.rules.proofs.Cases.{beq-same}
+use Rattle.bus.specs.Command.{addressOf}
+use Rattle.card.specs.declared.place.Block.{Block}
+use Rattle.card.specs.Memory.{theCell, withCell, withCells}
+use Rattle.message.specs.declared.state.Second.the-variants.{Absent}
+use Rattle.formats.specs.Row.{statusCell, replyCell, lastCell}
+use Rattle.exchange.specs.declared.order.Order.{Order}
+use Rattle.exchange.specs.declared.state.Stage.the-variants.{Awaiting, Reply, AwaitingLast, Ended}
+use Rattle.exchange.specs.declared.state.Exchange.{Exchange}
+use Rattle.exchange.specs.Order.{formatFor, awaited, awaitedLast}
+use Rattle.exchange.specs.Judge.{
+  exchangeOf,
+  isMarked,
+  statusHeard,
+  dataHeard,
+  wordHeard,
+  onWord,
+}
+use Rattle.controller.specs.declared.state.Progress.the-variants.{Back}
+use Rattle.controller.specs.declared.state.Message.the-variants.{Open}
+use Rattle.controller.specs.Control.{blockIn, lineIn}
+use Rattle.controller.specs.State.{Desk, desk, withMessage}
+use Rattle.controller.specs.Heard.{wordDone, wordMet, wordStep}
+use Rattle.rack.specs.Segment.{segment, commandWord, dataWord, dataWords, wordsOn}
+use Rattle.rack.specs.Hearing.{deskHears}
+
+-- the answer to an order has come so far, over a memory
+abbrev pub backAt : Desk → Order → Exchange → List ℕ → Desk
+backAt start order exchange ram =
+    desk (withMessage (Open (record { order = order; progress = Back exchange })) (start .state))
+    ram
+
+module _ (start : Desk) (order : Order) where
+  abbrev line : Bool
+  line = lineIn (start .state .control)
+
+  abbrev block : Block
+  block = blockIn (start .state .control)
+
+  abbrev at : Exchange → List ℕ → Desk
+  at = backAt start order
+
+  -- ---- one word
+
+  module _ (value time taken : ℕ) (mark : Bool) (ram : List ℕ) where
+    status-taken : addressOf value ≡ awaited order
+        → wordStep (commandWord line false value time)
+        (at (exchangeOf Awaiting taken mark) ram) .desk
+        ≡ at (exchangeOf Reply taken (mark || isMarked value))
+        (withCell ram block (theCell (statusCell (formatFor order))) value)
+    unfolding wordStep wordMet wordDone onWord wordHeard statusHeard withMessage
+    status-taken is = rw (beq-same line, eq-eqb (addressOf value) (awaited order) is)
+
+    pub last-status-taken : addressOf value ≡ awaitedLast order
+        → wordStep (commandWord line false value time)
+        (at (exchangeOf AwaitingLast taken mark) ram) .desk
+        ≡ at (exchangeOf Ended taken (mark || isMarked value))
+        (withCell ram block (theCell (lastCell (formatFor order))) value)
+    unfolding wordStep wordMet wordDone onWord wordHeard statusHeard withMessage
+    last-status-taken is = rw (beq-same line, eq-eqb (addressOf value) (awaitedLast order) is)
+
+    data-word-taken : taken < formatFor order .reply
+        → wordStep (dataWord line value time) (at (exchangeOf Reply taken mark) ram) .desk
+        ≡ at (exchangeOf Reply (taken + 1) mark)
+        (withCell ram block (theCell (replyCell (formatFor order) + taken)) value)
+    unfolding wordStep wordMet wordDone onWord wordHeard dataHeard withMessage
+    data-word-taken more = rw (beq-same line, lt-leb (formatFor order .reply) taken more)
+
+  -- ---- one after the other
+
+  data-words-taken : (words : List ℕ) (time : ℕ → ℕ) (place taken : ℕ) (mark : Bool)
+      (ram : List ℕ) → taken + length words ≤ formatFor order .reply
+      → deskHears (dataWords line time place words) (at (exchangeOf Reply taken mark) ram)
+      ≡ at (exchangeOf Reply (taken + length words) mark)
+      (withCells ram block (replyCell (formatFor order) + taken) words)
+  unfolding deskHears dataWords withCells
+  data-words-taken [] time place taken mark ram few = rw add-zero
+  data-words-taken (value ∷ words) time place taken mark ram few =
+      let next : taken + 1 + length words ≡ taken + suc (length words) = omega arith in
+      let from : ℕ = replyCell (formatFor order) + taken in
+      let cell : replyCell (formatFor order) + (taken + 1) ≡ from + 1 = omega arith in
+      let stored : List ℕ = withCell ram block (theCell from) value in
+      ap (λ (any : Desk). deskHears (dataWords line time (suc place) words) any)
+      (data-word-taken value (time place) taken mark ram (omega arith))
+      ∙ data-words-taken words time (suc place) (taken + 1) mark stored (omega arith)
+      ∙ ap (λ (count : ℕ). at (exchangeOf Reply count mark)
+      (withCells stored block (replyCell (formatFor order) + (taken + 1)) words)) next
+      ∙ ap (λ (any : ℕ). at (exchangeOf Reply (taken + suc (length words)) mark)
+      (withCells stored block any words)) cell
+
+  -- the whole answer stands behind the words given
+  pub answer-stored : (status : ℕ) (words : List ℕ) (time : ℕ → ℕ) (mark : Bool) (ram : List ℕ)
+      → addressOf status ≡ awaited order → length words ≡ formatFor order .reply
+      → deskHears (wordsOn line time (segment status Absent words))
+      (at (exchangeOf Awaiting 0 mark) ram)
+      ≡ at (exchangeOf Reply (length words) (mark || isMarked status))
+      (withCells ram block (statusCell (formatFor order)) (status ∷ words))
+  unfolding deskHears withCells
+  answer-stored status words time mark ram is all =
+      let marked : Bool = mark || isMarked status in
+      let stored : List ℕ =
+      withCell ram block (theCell (statusCell (formatFor order))) status in
+      ap (λ (any : Desk). deskHears (dataWords line time 1 words) any)
+      (status-taken status (time 0) 0 mark ram is)
+      ∙ data-words-taken words time 1 0 marked stored (omega (arith, all))
+      ∙ ap (λ (count : ℕ). at (exchangeOf Reply count marked)
+      (withCells stored block (replyCell (formatFor order) + 0) words)) (zero-add (length words))
+      ∙ ap (λ (from : ℕ). at (exchangeOf Reply (length words) marked)
+      (withCells stored block from words)) (add-zero (replyCell (formatFor order)))

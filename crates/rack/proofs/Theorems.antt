@@ -1,0 +1,25 @@
+-- What is proved of the joined bus, statement by statement. Assumes nothing.
+use Prim.Native.Nat.{ℕ}
+use Rattle.rack.specs.Hearing.{Stamps}
+use Rattle.rack.specs.Bus.{Rack}
+use Rattle.rack.specs.SameWords.{BothEndsHoldTheSame, AskedEach, PromisedEach}
+use Rattle.rack.specs.Ending.{EveryMessageEnds}
+use Rattle.rack.proofs.Message.EveryRow.{message-promised, run-promised}
+use Rattle.rack.proofs.Ending.Message.{message-ends}
+
+-- after a message of fit commands, for which the terminals are ready, controller and terminals hold
+-- the same data words, the code is 0, and who took no command is as before: for every row of the
+-- table, with X and without, for any number of terminals and at any stamps
+pub both-ends-hold-the-same : BothEndsHoldTheSame
+both-ends-hold-the-same = message-promised
+
+-- and so after each message of a run, however long, if as much is asked of each as it starts; where
+-- no message is started, nothing changes
+pub a-run-holds-the-same : (count : ℕ) (clocks : ℕ → ℕ → Stamps) (old : Rack)
+    → AskedEach count clocks old → PromisedEach count clocks old
+a-run-holds-the-same = run-promised
+
+-- every message that starts ends, whatever its commands ask of idle terminals: within three turns
+-- the controller is idle and no reply waits, and then all terminals are idle too
+pub every-message-ends : EveryMessageEnds
+every-message-ends = message-ends
