@@ -7,23 +7,18 @@ use mathlib.Core.List.{List, []}
 use Prim.Native.Nat.{ℕ, zero, suc, _-_, _≤_, _<_}
 use native.Mathlib.Decide.{decLt}
 use native.Mathlib.Omega.{arith}
-use lib.Dec.{ltb}
 use lib.ListN.{length}
-use borrow.Author.Tests.{ltb-true, ltb-false}
 use Rattle.rules.proofs.Clash.{clash}
-use Rattle.lines.specs.Written.{put, lineRoom, lineWritten}
+use Rattle.lines.specs.Written.{lineRoom}
 use Rattle.lines.proofs.WrittenLaws.{length-written}
 use Rattle.pieces.specs.declared.stop.Stop.{Stop}
-use Rattle.pieces.specs.declared.stop.Stop.the-variants.{Going, Hungry, Full, Over}
+use Rattle.pieces.specs.declared.stop.Stop.the-variants.{Going, Hungry, Full}
 use Rattle.pieces.specs.Course.{Met, taken, atEnd, refused, Course, lastOf, mayGoOn}
 use Rattle.pieces.specs.Steady.{Steady}
 use Rattle.pieces.specs.AsCoded.Window.{
   Passed,
-  stopping,
-  stopped,
   stoppedAt,
   stopsAt,
-  takes,
   passing,
   turn,
   isGoing,

@@ -1,6 +1,6 @@
 -- A course at work, the smallest that has all there is: a field is a byte, which is added up, and
--- the run itself refuses by 14 what would go above 255. It is steady (`summing-is-steady`); one that
--- takes all the bytes that are there is not (`greedy-is-not-steady`). Assumes nothing.
+-- the run itself refuses by 14 what would go above 255. It is steady (`summing-is-steady`); one
+-- that takes all the bytes that are there is not (`greedy-is-not-steady`). Assumes nothing.
 use mathlib.Core.Path.{_≡_, refl, subst}
 use mathlib.Core.Bool.{Bool, true, false, cond}
 use mathlib.Core.List.{List, [], _∷_, _++_}

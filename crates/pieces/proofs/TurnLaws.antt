@@ -1,6 +1,6 @@
 -- A turn goes by what is met, and turns are one after the other: what a program's own call cites.
--- What every turn keeps, a call keeps (`call-keeps`): so most claims over calls are proved, here and
--- in the crates above. Assumes nothing.
+-- What every turn keeps, a call keeps (`call-keeps`): so most claims over calls are proved, here
+-- and in the crates above. Assumes nothing.
 use mathlib.Core.Path.{_≡_, refl, sym, subst}
 use mathlib.Core.Bool.{Bool, true, false, cond, not, _&&_}
 use mathlib.Core.List.{List}
