@@ -7,23 +7,18 @@ use mathlib.Core.List.{List, []}
 use Prim.Native.Nat.{ℕ, zero, suc, _-_, _≤_, _<_}
 use native.Mathlib.Decide.{decLt}
 use native.Mathlib.Omega.{arith}
-use lib.Dec.{ltb}
 use lib.ListN.{length}
-use borrow.Author.Tests.{ltb-true, ltb-false}
 use Rattle.rules.proofs.Clash.{clash}
-use Rattle.lines.specs.Written.{put, lineRoom, lineWritten}
+use Rattle.lines.specs.Written.{lineRoom}
 use Rattle.lines.proofs.WrittenLaws.{length-written}
 use Rattle.pieces.specs.declared.stop.Stop.{Stop}
-use Rattle.pieces.specs.declared.stop.Stop.the-variants.{Going, Hungry, Full, Over}
+use Rattle.pieces.specs.declared.stop.Stop.the-variants.{Going, Hungry, Full}
 use Rattle.pieces.specs.Course.{Met, taken, atEnd, refused, Course, lastOf, mayGoOn}
 use Rattle.pieces.specs.Steady.{Steady}
 use Rattle.pieces.specs.AsCoded.Window.{
   Passed,
-  stopping,
-  stopped,
   stoppedAt,
   stopsAt,
-  takes,
   passing,
   turn,
   isGoing,
@@ -44,7 +39,13 @@ use Rattle.pieces.proofs.StopLaws.{
   over-hungry,
   over-full,
 }
-use Rattle.pieces.proofs.TurnLaws.{call-keeps, by-turn, as-going, stops-so}
+use Rattle.pieces.proofs.TurnLaws.{
+  stopped-stays,
+  call-keeps,
+  by-turn,
+  as-going,
+  stops-so,
+}
 use Rattle.pieces.proofs.WindowLaws.{turn-inside}
 
 module _ {Run : Type 0} (course : Course Run) {longest : ℕ} (steady : Steady course longest)
@@ -145,13 +146,6 @@ module _ {Run : Type 0} (course : Course Run) {longest : ℕ} (steady : Steady c
       go atEnd is = within
       go (refused number) is = within
 
-  -- turns do nothing to what has stopped
-  stopped-stays : (most : ℕ) (old : Passed Run) → isGoing (old .stop) ≡ false
-      → turns course most window last old ≡ old
-  unfolding turns
-  stopped-stays zero old stops = refl
-  stopped-stays (suc most) old stops = rw stops
-
   -- a turn more, or none
   turns-by : (most : ℕ) (old : Passed Run) (goes : Bool) → isGoing (old .stop) ≡ goes
       → turns course (suc most) window last old
@@ -179,7 +173,7 @@ module _ {Run : Type 0} (course : Course Run) {longest : ℕ} (steady : Steady c
         turn-within old within,
       ))
   after-turn most old false is on within few =
-      rw (stopped-stays most (turn course window last old) is) is
+      rw (stopped-stays course window last most (turn course window last old) is) is
 
   one-more : (most : ℕ) (old : Passed Run) (goes : Bool) → isGoing (old .stop) ≡ goes
       → StopsIn most (turn course window last old) → StopsIn (suc most) old

@@ -5,13 +5,14 @@
 --     KeepLaws      what is left of a window moves to its front
 --     WholeLaws     what is made of a recording goes field by field
 --     WindowLaws    a call prints its part, whatever comes behind
---     TurnLaws      what every turn keeps, a call keeps
+--     TurnLaws      a turn, turn after turn, and what every turn keeps
 --     EndLaws       a call comes to an end
 --     HungryLaws    a call that needs bytes leaves room to read them
 --     EmptyLaws     a call over no bytes
 --     RoomLaws      a buffer with room for a whole recording holds all its lines
 --     PieceLaws     any pieces print what the whole prints
 --     KeptLaws      what every field keeps, every call and all pieces keep
+--     Examples      a course at work, and one that is not steady
 --     Determined    each public contract allows one outcome alone
 pub mod LineLaws
 pub mod CourseLaws
@@ -26,4 +27,5 @@ pub mod EmptyLaws
 pub mod RoomLaws
 pub mod PieceLaws
 pub mod KeptLaws
+mod Examples
 pub mod Determined

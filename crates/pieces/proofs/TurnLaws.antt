@@ -1,12 +1,14 @@
--- What every turn keeps, a call keeps (`turns-keep`), and a turn goes by what is met (`by-turn`).
--- So most claims over calls are proved, here and in the crates above. Assumes nothing.
+-- A turn goes by what is met, and turns are one after the other: what a program's own call cites.
+-- What every turn keeps, a call keeps (`call-keeps`): so most claims over calls are proved, here
+-- and in the crates above. Assumes nothing.
 use mathlib.Core.Path.{_≡_, refl, sym, subst}
 use mathlib.Core.Bool.{Bool, true, false, cond, not, _&&_}
 use mathlib.Core.List.{List}
 use Prim.Native.Nat.{ℕ, zero, suc, _-_, _≤_, _<_}
+use native.Mathlib.Omega.{arith}
 use lib.Dec.{ltb}
 use lib.ListN.{length}
-use borrow.Author.Tests.{ltb-true, ltb-false}
+use borrow.Author.Tests.{lt-ltb, le-ltb, ltb-true, ltb-false}
 use Rattle.lines.specs.Written.{put, lineRoom, lineWritten}
 use Rattle.pieces.specs.declared.stop.Stop.{Stop}
 use Rattle.pieces.specs.declared.stop.Stop.the-variants.{Going, Hungry, Full, Over}
@@ -26,14 +28,46 @@ use Rattle.pieces.specs.AsCoded.Window.{
   windowRun,
 }
 
--- a turn, and then the others
-pub one-turn : {Run : Type 0} (course : Course Run) (window : List ℕ) (last : Bool) (left : ℕ)
-    (old new : Passed Run) → old .stop ≡ Going → turn course window last old ≡ new
-    → turns course left window last new ≡ turns course (suc left) window last old
-unfolding turns
-one-turn course window last left old new going is = rw (is, going)
-
 module _ {Run : Type 0} (course : Course Run) (window : List ℕ) (last : Bool) where
+  -- ---- a turn
+
+  -- without room for a line it stops
+  pub turn-full : (old : Passed Run) → length (old .out) - old .put < lineRoom
+      → stopping Full old ≡ turn course window last old
+  unfolding turn
+  turn-full old short = rw (lt-ltb (length (old .out) - old .put) lineRoom short)
+
+  -- else it goes by what is met
+  pub turn-by : (old : Passed Run) {met : Met Run} → lineRoom ≤ length (old .out) - old .put
+      → course .meets (old .run) window (old .at) ≡ met
+      → passing course met last old ≡ turn course window last old
+  unfolding turn
+  turn-by old enough is = rw (is, le-ltb (length (old .out) - old .put) lineRoom enough)
+
+  -- ---- turn after turn
+
+  -- a turn, and then the others
+  pub one-turn : (left : ℕ) (old new : Passed Run) → old .stop ≡ Going
+      → turn course window last old ≡ new
+      → turns course left window last new ≡ turns course (suc left) window last old
+  unfolding turns
+  one-turn left old new going is = rw (is, going)
+
+  -- no turns do nothing
+  pub no-turns : (left : ℕ) (old : Passed Run) → left ≤ 0 → turns course left window last old ≡ old
+  unfolding turns
+  no-turns zero old none = refl
+  no-turns (suc left) old none = absurd (omega (arith, none))
+
+  -- turns do nothing to what has stopped
+  pub stopped-stays : (left : ℕ) (old : Passed Run) → isGoing (old .stop) ≡ false
+      → turns course left window last old ≡ old
+  unfolding turns
+  stopped-stays zero old stops = refl
+  stopped-stays (suc left) old stops = rw stops
+
+  -- ---- what every turn keeps
+
   turns-keep : (Claim : Passed Run → Type 0)
       → ((old : Passed Run) → old .stop ≡ Going → Claim old → Claim (turn course window last old))
       → (most : ℕ) (old : Passed Run) → Claim old → Claim (turns course most window last old)

@@ -3,14 +3,14 @@
 use mathlib.Core.Path.{_≡_, refl, sym, ap, _∙_}
 use mathlib.Core.Bool.{Bool, true, false, not}
 use mathlib.Core.List.{List}
-use Prim.Native.Nat.{ℕ, zero, suc, _-_, _≤_, _<_}
+use Prim.Native.Nat.{ℕ, suc, _-_, _≤_, _<_}
 use native.Mathlib.Omega.{arith}
 use lib.ListN.{length}
 use borrow.Author.Tests.{not-true, not-false}
 use Rattle.pieces.specs.declared.stop.Stop.the-variants.{Going}
-use Rattle.pieces.specs.AsCoded.Window as pieces
+use Rattle.pieces.specs.AsCoded.Window.{isGoing}
 use Rattle.pieces.proofs.StopLaws.{going-is}
-use Rattle.pieces.proofs.TurnLaws.{one-turn}
+use Rattle.pieces.proofs.TurnLaws.{one-turn, no-turns, stopped-stays}
 use Rattle.tray.specs.declared.window.Passed.{Passed as HeldPassed}
 use Rattle.tray.specs.Run.{trayCourse}
 use Rattle.tray.specs.AsCoded.Window.{Passed, turn, turns}
@@ -31,25 +31,24 @@ module _ (window : List ℕ) (last : Bool) (start : Passed) (most : ℕ) where
   module _ (old : Passed) where
     -- it has stopped
     pub leads-stopped : (left : ℕ) (going : Bool) → Leads window last start most old left
-        → going ≡ pieces.isGoing (old .stop) → not going ≡ true
+        → going ≡ isGoing (old .stop) → not going ≡ true
         → old ≡ turns most window last start
-    unfolding pieces.turns
-    leads-stopped zero going so-far is-going stops = so-far .leads
-    leads-stopped (suc left) going so-far is-going stops =
-        rw (← is-going, not-true going stops) at (so-far .leads)
+    leads-stopped left going so-far is-going stops =
+        sym (stopped-stays trayCourse window last left old
+        (sym is-going ∙ not-true going stops))
+        ∙ so-far .leads
 
     -- no turn is left
     pub leads-done : (left : ℕ) → Leads window last start most old left → left ≤ 0
         → old ≡ turns most window last start
-    unfolding pieces.turns
-    leads-done zero so-far none = so-far .leads
-    leads-done (suc left) so-far none = absurd (omega (arith, none))
+    leads-done left so-far none =
+        sym (no-turns trayCourse window last left old none) ∙ so-far .leads
 
   -- a row of data words, and a turn more
   module _ (old next : HeldPassed) (places ram out ram′ : List ℕ) (room left left′ : ℕ) where
     pub leads-on : (going : Bool) (new : Passed)
         → Leads window last start most (passedOf old places ram out) left
-        → 0 < left → going ≡ pieces.isGoing (old .stop) → not going ≡ false
+        → 0 < left → going ≡ isGoing (old .stop) → not going ≡ false
         → room ≡ length out - old .put
         → RowTaken window room left old ram left′ next ram′
         → new ≡ turn window last (passedOf next places ram′ out)

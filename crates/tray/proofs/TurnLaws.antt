@@ -6,7 +6,6 @@ use mathlib.Core.List.{List}
 use Prim.Native.Nat.{ℕ, _+_, _-_, _≤_, _<_, _%_, _^_}
 use native.Mathlib.Omega.{arith}
 use lib.ListN.{length}
-use borrow.Author.Tests.{lt-ltb, le-ltb}
 use Rattle.terminal.specs.Event.{shown}
 use Rattle.terminal.specs.State.{cardOf}
 use Rattle.recording.specs.declared.field.Field.{Field}
@@ -24,6 +23,7 @@ use Rattle.lines.specs.Written.{put, lineRoom, lineWritten}
 use Rattle.pieces.specs.declared.stop.Stop.{Stop}
 use Rattle.pieces.specs.declared.stop.Stop.the-variants.{Going, Full}
 use Rattle.pieces.specs.AsCoded.Window as pieces
+use Rattle.pieces.proofs.TurnLaws as general
 use Rattle.tray.specs.declared.field.Shown.{Shown as HeldShown}
 use Rattle.tray.specs.declared.window.Passed.{Passed as HeldPassed}
 use Rattle.tray.specs.Happening.{happeningOf, happened}
@@ -101,17 +101,18 @@ module _ (ran : HeldPassed) (places ram out window : List ℕ) (last : Bool) (ro
   pub turn-full : (left : HeldPassed) → room < lineRoom
       → left ≡ record { tray = ran .tray; at = ran .at; put = ran .put; stop = Full }
       → passedOf left places ram out ≡ turn window last before
-  unfolding pieces.turn
   turn-full left short is-left =
-      rw (is-left, lt-ltb (length out - ran .put) lineRoom (rw is-room at short))
+      rw is-left (general.turn-full trayCourse window last before (rw is-room at short))
 
   module _ (reading : Reading) (enough : lineRoom ≤ room)
       (is-reading : reading ≡ readAt window (ran .at) (ran .tray .seen)) where
     turn-by : pieces.passing trayCourse
         (metBy reading window (ran .at) (trayOf (ran .tray) places ram)) last before
         ≡ turn window last before
-    unfolding pieces.turn trayCourse
-    turn-by = rw (is-reading, le-ltb (length out - ran .put) lineRoom (rw is-room at enough))
+    unfolding trayCourse
+    turn-by =
+        general.turn-by trayCourse window last before (rw is-room at enough)
+        (ap (λ (any : Reading). metBy any window (ran .at) (before .run)) (sym is-reading))
 
     pub turn-takes : (told : Field) (next : ℕ) (new : Passed) → reading ≡ Taken told next
         → new ≡ takes window told next before → new ≡ turn window last before

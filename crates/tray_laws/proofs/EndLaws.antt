@@ -17,7 +17,7 @@ use Rattle.pieces.proofs.EndLaws as general
 use Rattle.pieces.proofs.HungryLaws as hungry
 use Rattle.pieces.proofs.KeptLaws.{call-kept}
 use Rattle.tray.specs.Run.{Tray, taking, trayCourse}
-use Rattle.tray.specs.AsCoded.Window.{Passed, windowRun}
+use Rattle.tray.specs.AsCoded.Window.{windowRun}
 use Rattle.tray_laws.proofs.MetLaws.{taken-so}
 use Rattle.tray_laws.proofs.SteadyLaws.{tray-is-steady}
 

@@ -2,7 +2,6 @@
 -- nothing.
 use mathlib.Core.Path.{_≡_, refl}
 use mathlib.Core.Bool.{Bool, true, false}
-use Prim.Native.Nat.{ℕ}
 use Rattle.tray.specs.Run.{Tray, trayAtStart, trayCourse}
 use Rattle.tray_laws.proofs.SteadyLaws.{tray-is-steady}
 use Rattle.tray_laws.proofs.EndLaws.{Untouched, untouched-kept}

@@ -13,7 +13,7 @@ abbrev μ-loop : tie.MeasureT-loop
 μ-loop places₀ ram₀ window₀ out₀ tray₀ pump₀ turns₀ places ram window out tray pump turns = turns
 
 at-start-requires : tie.Need-at-start-requires Inv-loop μ-loop
-at-start-requires c κs = search (needs, pumping) depth 9
+at-start-requires c κs = search needs
 
 loop-holds : tie.Need-loop-holds Inv-loop μ-loop
 loop-holds c = search (needs, pumping) depth 9
@@ -31,25 +31,25 @@ returns : tie.Need-returns Inv-loop μ-loop
 returns c = search (needs, pumping) depth 9
 
 sub-run-window : tie.Need-sub-run-window Inv-loop μ-loop
-sub-run-window c = search (needs, pumping) depth 9
+sub-run-window c = search needs
 
 part-run-window-start : tie.Need-part-run-window-start Inv-loop μ-loop
-part-run-window-start c = search (needs, pumping) depth 9
+part-run-window-start c = search needs
 
 part-run-window-end : tie.Need-part-run-window-end Inv-loop μ-loop
 part-run-window-end c = search (needs, pumping) depth 9
 
 run-window-requires : tie.Need-run-window-requires Inv-loop μ-loop
-run-window-requires c κs = search (needs, pumping) depth 9
+run-window-requires c κs = search needs
 
 settle-requires : tie.Need-settle-requires Inv-loop μ-loop
-settle-requires c κs = search (needs, pumping) depth 9
+settle-requires c κs = search needs
 
 sub-turns : tie.Need-sub-turns Inv-loop μ-loop
-sub-turns c = search (needs, pumping) depth 9
+sub-turns c = search needs
 
 loop-less : tie.Need-loop-less Inv-loop μ-loop
-loop-less c = search (needs, pumping) depth 9
+loop-less c = search needs
 
 loop-again : tie.Need-loop-again Inv-loop μ-loop
 loop-again c = search (needs, pumping) depth 9
