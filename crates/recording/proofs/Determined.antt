@@ -12,8 +12,6 @@ use Rattle.recording.proofs.reading.read_field.Kinds as read-field-kind
 use Rattle.recording.proofs.reading.read_field.Reads as read-field-reads
 use Rattle.recording.proofs.words.find_word.Kinds as find-word-kinds
 use Rattle.recording.proofs.words.find_word.Reads as find-word-reads
-use Rattle.recording.proofs.words.copy_words.Kinds as copy-words-kinds
-use Rattle.recording.proofs.words.copy_words.Reads as copy-words-reads
 use Rattle.recording.proofs.words.write_words.Kinds as write-words-kinds
 use Rattle.recording.proofs.words.write_words.Reads as write-words-reads
 use Rattle.recording.proofs.bytes.of_bytes.Kinds as of-bytes-kinds
@@ -30,11 +28,6 @@ read-field κs arguments result result′ exit exit′ = same
 
 pub find-word : Determined 1 find-word-kinds.ps find-word-kinds.r find-word-reads.Post
 find-word κs arguments result result′ exit exit′ = same
-
-pub copy-words :
-    DeterminedAs 2 copy-words-kinds.ps copy-words-kinds.r copy-words-reads.Post (List ℕ)
-    (λ κs result exit. now (exit .1 .1 .1 .0))
-copy-words κs arguments result result′ exit exit′ = same
 
 pub write-words :
     DeterminedAs 2 write-words-kinds.ps write-words-kinds.r write-words-reads.Post (List ℕ)

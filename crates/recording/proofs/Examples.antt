@@ -1,12 +1,12 @@
 -- What no recording shows, by computation: numbers that no byte is, a place past the end, pieces,
--- copies that are not made. The other worked cases are rows of `vectors`. Assumes nothing.
+-- words that are not written. The other worked cases are rows of `vectors`. Assumes nothing.
 use mathlib.Core.Path.{_≡_, refl}
 use mathlib.Core.Bool.{true, false}
 use mathlib.Core.List.{List, [], _∷_, _++_}
 use Prim.Native.Nat.{ℕ}
 use lib.ListN.{replicate, take, drop}
 use Rattle.recording.specs.declared.reading.Reading.the-variants.{End, Refused}
-use Rattle.recording.specs.Bytes.{withWords}
+use Rattle.recording.specs.Bytes.{withWritten}
 use Rattle.recording.specs.Tag.{tagOf, lengthFits}
 use Rattle.recording.specs.Field.{fieldAt}
 use Rattle.recording.specs.Seen.{nothingSeen, setupSeen}
@@ -59,10 +59,10 @@ unfolding readAt tagOf lengthFits fieldAt
 past-the-end = refl
 
 -- two words of which the second is cut off, and 65 words
-copies-that-are-not-made :
-    withWords (1 ∷ 2 ∷ []) (0x11 ∷ 0x11 ∷ 0x22 ∷ []) 0 2
-    ∷ withWords (1 ∷ 2 ∷ []) (replicate 130 0) 0 65
+words-that-are-not-written :
+    withWritten (1 ∷ 2 ∷ []) 0 (0x11 ∷ 0x11 ∷ 0x22 ∷ []) 0 2
+    ∷ withWritten (1 ∷ 2 ∷ []) 0 (replicate 130 0) 0 65
     ∷ []
     ≡ replicate 2 (1 ∷ 2 ∷ [])
-unfolding withWords
-copies-that-are-not-made = refl
+unfolding withWritten
+words-that-are-not-written = refl

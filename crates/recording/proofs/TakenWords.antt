@@ -1,17 +1,14 @@
--- The words of a host write that was taken: all are there, and a copy has them in front
--- (`taken-words-copied`); bytes that come behind do not change them (`more-bytes-same-words`).
--- Assumes nothing.
+-- The words of a host write that was taken: all are there (`taken-words-there`), and bytes that
+-- come behind do not change them (`more-bytes-same-words`). Assumes nothing.
 use mathlib.Core.Path.{_≡_}
 use mathlib.Core.List.{List, _++_}
 use Prim.Native.Nat.{ℕ, _*_, _≤_}
 use native.Mathlib.Omega.{arith}
-use lib.ListN.{length, take}
 use Rattle.recording.specs.declared.field.Field.the-variants.{HostWrite}
 use Rattle.recording.specs.declared.seen.Seen.{Seen}
 use Rattle.recording.specs.declared.reading.Reading.the-variants.{Taken}
-use Rattle.recording.specs.Bytes.{bytesLeft, wordsAt, withWords}
+use Rattle.recording.specs.Bytes.{bytesLeft, wordsAt}
 use Rattle.recording.specs.Reading.{readAt}
-use Rattle.recording.proofs.WordsLaws.{front-of-copy}
 use Rattle.recording.proofs.TakenLaws.{Within, taken-within}
 use Rattle.recording.proofs.InOrder.{WriteInOrder, taken-in-order}
 use Rattle.recording.proofs.MoreBytes.{words-of-more}
@@ -26,12 +23,6 @@ module _ (bytes : List ℕ) (place : ℕ) (seen : Seen) {address first count nex
 
   pub taken-words-there : 2 * count ≤ bytesLeft bytes first
   taken-words-there = omega (arith, write .to-the-end, field .ends-inside)
-
-  -- 64 places are room enough
-  pub taken-words-copied : (words : List ℕ) → 64 ≤ length words
-      → take count (withWords words bytes first count) ≡ wordsAt bytes first count
-  taken-words-copied words room =
-      front-of-copy words bytes first count (omega (arith, write .at-most)) taken-words-there
 
   pub more-bytes-same-words : (back : List ℕ)
       → wordsAt (bytes ++ back) first count ≡ wordsAt bytes first count

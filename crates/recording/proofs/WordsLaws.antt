@@ -1,17 +1,14 @@
 -- The words of a host write: the loop of `copy_all`, and what stands in front after a copy.
 -- Assumes nothing.
 use mathlib.Core.Path.{_≡_, refl, sym, ap, _∙_}
-use mathlib.Core.Bool.{_&&_}
 use mathlib.Core.List.{List}
 use Prim.Native.Nat.{ℕ, zero, suc, _+_, _-_, _*_, _≤_, _<_}
 use native.Mathlib.Numerals.{add-one}
 use native.Mathlib.Omega.{arith}
-use lib.Dec.{leb}
 use lib.ListN.{length, set, take, drop}
-use lib.Seq.{sets, sets-eq, length-sets, take-at}
+use lib.Seq.{sets, sets-eq, take-at}
 use borrow.Author.Tests.{le-leb, lt-leb}
-use Rattle.rules.proofs.Choices.{by-test}
-use Rattle.recording.specs.Bytes.{bytesLeft, wordAt, wordsAt, withWords, mostWritten, withWritten}
+use Rattle.recording.specs.Bytes.{bytesLeft, wordAt, wordsAt, mostWritten, withWritten}
 
 -- ---- the loop: the words that are left take what is there to what is wanted
 
@@ -41,64 +38,10 @@ module _ {wanted words bytes : List ℕ} {first count word : ℕ}
 
 pub ruleset copyings = (copying-all, copying-less, copying-none)
 
--- ---- a copy on each way that the code takes
-
-module _ (words bytes : List ℕ) (first count : ℕ) where
-  pub copied-no-room : length words < count → words ≡ withWords words bytes first count
-  unfolding withWords
-  copied-no-room many = rw (lt-leb count (length words) many)
-
-  module _ (left : ℕ) (is-left : left ≡ bytesLeft bytes first) (room : count ≤ length words) where
-    pub copied-not-there : left < 2 * count → words ≡ withWords words bytes first count
-    unfolding withWords
-    copied-not-there short =
-        rw (
-          le-leb count (length words) room,
-          lt-leb (2 * count) (bytesLeft bytes first) (omega arith),
-        )
-
-    module _ (there : 2 * count ≤ left) where
-      pub copied-there : (words′ : List ℕ) → words′ ≡ sets words 0 (wordsAt bytes first count)
-          → words′ ≡ withWords words bytes first count
-      unfolding withWords
-      copied-there words′ is =
-          is
-          ∙ rw (
-            le-leb count (length words) room,
-            le-leb (2 * count) (bytesLeft bytes first) (omega arith),
-          )
-
-pub ruleset copies = (copied-no-room, copied-not-there, copied-there)
-
--- ---- what stands in front after a copy
-
 pub length-words-at : (bytes : List ℕ) (first count : ℕ)
     → length (wordsAt bytes first count) ≡ count
 length-words-at bytes first zero = refl
 length-words-at bytes first (suc count) = ap suc (length-words-at bytes (first + 2) count)
-
-pub length-with-words : (words bytes : List ℕ) (first count : ℕ)
-    → length (withWords words bytes first count) ≡ length words
-unfolding withWords
-length-with-words words bytes first count =
-    by-test (λ (copied : List ℕ). length copied ≡ length words)
-    (leb count (length words) && leb (2 * count) (bytesLeft bytes first))
-    (λ _. length-sets words 0 (wordsAt bytes first count)) (λ _. refl)
-
--- the words that were copied are the first so many
-pub front-of-copy : (words bytes : List ℕ) (first count : ℕ)
-    → count ≤ length words → 2 * count ≤ bytesLeft bytes first
-    → take count (withWords words bytes first count) ≡ wordsAt bytes first count
-unfolding withWords
-front-of-copy words bytes first count room there =
-    let copied : List ℕ = wordsAt bytes first count in
-    let as-many : length copied ≡ count = length-words-at bytes first count in
-    rw (
-      le-leb count (length words) room,
-      le-leb (2 * count) (bytesLeft bytes first) there,
-      sets-eq copied words 0 (omega arith),
-    )
-    (take-at copied (drop (0 + length copied) words) count as-many)
 
 -- ---- words that are written
 

@@ -25,13 +25,6 @@ abbrev pub wordsAt : List ℕ → ℕ → ℕ → List ℕ
 wordsAt bytes first zero = []
 wordsAt bytes first (suc count) = wordAt bytes first ∷ wordsAt bytes (first + 2) count
 
--- words with so many others copied to the front, where all are there and there is room
-unfoldable pub withWords : List ℕ → List ℕ → ℕ → ℕ → List ℕ
-withWords words bytes first count =
-    cond (leb count (length words) && leb (2 * count) (bytesLeft bytes first))
-    (sets words 0 (wordsAt bytes first count))
-    words
-
 -- the words of a field that writes: 64 at the most
 abbrev pub mostWritten : ℕ
 mostWritten = 64

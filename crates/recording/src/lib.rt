@@ -2,7 +2,7 @@
 // two, high byte first, and a value of that length. Read `tag` first, the table of tags, then
 // `field`: what a field holds. `seen` is what a reader has seen, by which a field comes in order or
 // not. `reading` takes one field or tells the refusal, `words` finds a word field by its marks and
-// copies the words of a host write, and `bytes` has the numbers that bytes spell. What other crates
+// writes the words of a field to memory, and `bytes` has the numbers that bytes spell. What other crates
 // use is named here without its module.
 mod bytes;
 mod field;
@@ -17,6 +17,5 @@ pub use reading::Reading;
 pub use reading::read_field;
 pub use seen::Seen;
 pub use words::Found;
-pub use words::copy_words;
 pub use words::find_word;
 pub use words::write_words;

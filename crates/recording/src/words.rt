@@ -4,7 +4,7 @@ ghost use mathlib.Core.Path.{_≡_};
 ghost use Prim.Native.Nat.{_*_, _≤_};
 ghost use lib.ListN.{length};
 ghost use lib.Seq.{sets};
-ghost use Rattle.recording.specs.Bytes.{bytesLeft, wordsAt, withWords, withWritten};
+ghost use Rattle.recording.specs.Bytes.{bytesLeft, wordsAt, withWritten};
 ghost use Rattle.recording.specs.AsCoded.Found.{wordFound};
 use crate::bytes;
 use crate::tag;
@@ -51,20 +51,6 @@ fn copy_all(bytes: &[u8], first: usize, count: usize, words: &mut [u16])
         words[word] = bytes::word_at(bytes, first + 2 * word);
         word += 1;
     }
-}
-
-// Copies so many words to the front, where all are there and there is room, and none otherwise.
-pub fn copy_words(bytes: &[u8], first: usize, count: usize, words: &mut [u16])
-    ensures { λ _. ⌜ now (words .exit)
-        ≡ withWords (now (words .entry)) (now (bytes .entry)) first count ⌝ }
-{
-    if count > words.len() {
-        return;
-    }
-    if bytes::bytes_left(bytes, first) < 2 * count {
-        return;
-    }
-    copy_all(bytes, first, count, words);
 }
 
 // The words of a field that writes, 64 at the most, go from the bytes to a memory.

@@ -40,12 +40,12 @@ use Rattle.terminal.specs.Machine.{
 use Rattle.terminal.proofs.SilentLaws.{words-are-silent}
 use Rattle.recording.specs.declared.field.Field.{Field}
 use Rattle.recording.specs.declared.field.Field.the-variants as field
-use Rattle.recording.specs.Bytes.{wordsAt, withWords}
+use Rattle.recording.specs.Bytes.{withWritten}
 use Rattle.recording.specs.Value.{valuedAt}
-use Rattle.recording.proofs.WordsLaws.{front-of-copy}
+use Rattle.recording.proofs.WordsLaws.{words-written}
 use Rattle.tray.specs.declared.field.Shown.{Shown as HeldShown}
 use Rattle.tray.specs.Happening.{happeningOf, happened}
-use Rattle.tray.specs.AsCoded.Held.{WordsIn, WordsThere}
+use Rattle.tray.specs.AsCoded.Held.{WordsThere}
 
 abbrev quiet : Core → Ring → HeldShown
 quiet core ring =
@@ -95,11 +95,19 @@ module _ (told : Field) (window places ram : List ℕ) (held : Held) where
 
   pub host-write-comes : (address first count : ℕ) (left : HeldShown) (ram′ : List ℕ)
       → told ≡ field.HostWrite address first count
-      → ram′ ≡ sets ram address (wordsAt window first count)
+      → WordsThere window told
+      → ram′ ≡ withWritten ram address window first count
       → left ≡ quiet (held .core) (held .ring)
       → shown (cardOf (left .held) places ram′) (left .answer) ≡ comes
   unfolding happened happeningOf valuedAt step hostWriteStep
-  host-write-comes address first count left ram′ is is-ram is-left = rw (is, is-left, is-ram)
+  host-write-comes address first count left ram′ is there is-ram is-left =
+      let within = there .words address first count is in
+      rw (
+        is,
+        is-left,
+        is-ram,
+        words-written ram window address first count (within .few) (within .there),
+      )
 
   pub table-comes : (table : ℕ) (core : Core) (left : HeldShown)
       → told ≡ field.MoveTable table
@@ -128,22 +136,3 @@ pub ruleset happenings = (
   table-comes,
   flags-come,
 )
-
--- the words of a host write stand in the window
-pub write-there : (window : List ℕ) (told : Field) (address first count : ℕ)
-    → told ≡ field.HostWrite address first count → WordsThere window told
-    → WordsIn window first count
-write-there window told address first count is held = held .words address first count is
-
--- the words that were copied are those that stand there
-pub words-written : (window ram words words′ ram′ : List ℕ) (address first count : ℕ)
-    → WordsIn window first count → 64 ≡ length words
-    → words′ ≡ withWords words window first count
-    → ram′ ≡ sets ram address (take (count - 0) (drop 0 words′))
-    → ram′ ≡ sets ram address (wordsAt window first count)
-words-written window ram words words′ ram′ address first count within long is-words is-ram =
-    let all : count - 0 ≡ count = omega arith in
-    let copied : take count words′ ≡ wordsAt window first count =
-    rw is-words
-    (front-of-copy words window first count (omega (arith, within .few)) (within .there)) in
-    rw (is-ram, all, copied)

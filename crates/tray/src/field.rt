@@ -1,16 +1,13 @@
 // What a field tells comes about: a setup makes the terminal anew, an event is a step of it.
 ghost use mathlib.Core.Path.{_≡_};
-ghost use lib.Seq.{sets};
 ghost use Rattle.queue.specs.Queue.{queue, emptyQueue};
 ghost use Rattle.terminal.specs.declared.state.Reply.the-variants.{Silent};
 ghost use Rattle.terminal.specs.State.{cardOf};
 ghost use Rattle.terminal.specs.Event.{shown, replied};
-ghost use Rattle.recording.specs.Bytes.{wordsAt};
 ghost use Rattle.recording.specs.Value.{valuedAt};
 ghost use Rattle.tray.specs.Happening.{happeningOf, happened};
-ghost use Rattle.tray.specs.AsCoded.Held.{WordsIn, WordsThere};
+ghost use Rattle.tray.specs.AsCoded.Held.{WordsThere};
 use bus::word;
-use card::host;
 use card::place::Block;
 use queue::Ring;
 use recording;
@@ -24,17 +21,6 @@ use terminal::state::Reply;
 pub struct Shown {
     pub held: Held,
     pub answer: Answer,
-}
-
-// The words of a host write go from the window to the card.
-fn write_words(ram: &mut [u16], window: &[u8], address: u16, first: usize, count: usize)
-    requires { ⌜ WordsIn (now window) first count ⌝ }
-    ensures { λ _. ⌜ now (ram .exit)
-        ≡ sets (now (ram .entry)) address (wordsAt (now (window .entry)) first count) ⌝ }
-{
-    let mut words: [u16; 64] = [0; 64];
-    recording::copy_words(window, first, count, &mut words);
-    host::write_words(ram, address, &words[0..count]);
 }
 
 // A setup empties the queue.
@@ -125,7 +111,7 @@ pub(crate) fn happen(
             first,
             count,
         } => {
-            write_words(ram, window, address, first, count);
+            recording::write_words(window, first, count, ram, address);
             silently(core, ring)
         }
         Field::MoveTable { table } => {

@@ -1,6 +1,6 @@
 -- `tray::field::happen` meets its contract: a law for each kind of field. Assumes nothing.
 use borrow.Author.Needs.{needs}
-use Rattle.tray.proofs.HappenLaws.{happenings, write-there}
+use Rattle.tray.proofs.HappenLaws.{happenings}
 use Rattle.tray.proofs.field.happen.Statement.{statement}
 use Rattle.tray.proofs.field.happen.Tie as tie
 
@@ -50,7 +50,7 @@ enum-known-field-4 : tie.Need-enum-known-field-4
 enum-known-field-4 c = search needs
 
 write-words-requires : tie.Need-write-words-requires
-write-words-requires c κs = search (needs, write-there) depth 9
+write-words-requires c κs = search needs
 
 silently-requires-2 : tie.Need-silently-requires-2
 silently-requires-2 c κs = search needs
