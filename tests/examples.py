@@ -2,9 +2,10 @@
 """The compiled programs on the stored recordings; leaves 1 on a difference.
 
 Stored are examples/ and tests/recordings/: NAME.txt, what is to be printed in NAME.lines and
-NAME.cells, and in examples/ the bytes in NAME.bin too. Each is run whole, in pieces, cut at each
-byte and with each byte damaged. What a cut or damaged one is to print comes from the peer. Then
-outputs that fail, and inputs that do, at once or after some bytes.
+NAME.cells, and in examples/ the bytes in NAME.bin too. A recording that begins with tag 0A is the
+controller's, every other one the tray's. Each is run whole, in pieces, cut at each byte and with
+each byte damaged. What a cut or damaged one is to print comes from the peer. Then outputs that
+fail, and inputs that do, at once or after some bytes.
 """
 
 import concurrent.futures
@@ -19,24 +20,54 @@ import tempfile
 import tty
 
 import generate
+import generate_controller
 import programs
 
-RUN = programs.compiled("tray_run")
-CELLS = programs.compiled("tray_cells")
-TRAY = str(programs.ROOT / "tray")
-PEER = programs.peer()
-PEER_CELLS = programs.peer("cells")
+LAUNCHER = str(programs.ROOT / "tray")
 PIECES = (1, 2, 3, 7, 133, 4096, 65537)
 EVERY_BIT = "tray"            # document 01's recording: flipped bit by bit; the others a bit a byte
 SECONDS = 60                  # a run that takes longer hangs
 BROKE_OFF = b"tray: the run broke off: what is printed stops before its end\n"
 
 
+class Kind:
+    """A kind of recordings: the programs for lines and for cells, ours and the peer's, the
+    launcher's words for them, a long recording, and one that is cut off while it is read."""
+
+    def __init__(self, name, peer, generator, words, broken):
+        self.run = programs.compiled(f"{name}_run")
+        self.cells = programs.compiled(f"{name}_cells")
+        self.peer = programs.peer(build=f"peer/{peer}")
+        self.peer_cells = programs.peer("cells", build=f"peer/{peer}")
+        self.long = generator.recording(2, fields=20000, well_formed=True)
+        self.words = words
+        self.broken = bytes_of(programs.ROOT / "examples" / f"{broken}.txt")
+
+    def ours(self):
+        return self.run, self.cells
+
+    def pairs(self):
+        return (self.run, self.peer), (self.cells, self.peer_cells)
+
+
+def bytes_of(text):
+    return bytes.fromhex(re.sub(r"#.*|[;\s]", "", text.read_text()))
+
+
+TRAY = Kind("tray", "peer", generate, ("run", "cells"), "tray")
+CONTROLLER = Kind("controller", "controller", generate_controller, ("control", "control-cells"),
+                  "silent")
+KINDS = (TRAY, CONTROLLER)
+
+
+def kind_of(recording):
+    return CONTROLLER if recording.startswith(b"\x0A") else TRAY
+
+
 def stored_recordings():
     folders = (programs.ROOT / "examples", programs.TESTS / "recordings")
     for text in sorted(path for folder in folders for path in folder.glob("*.txt")):
-        digits = re.sub(r"#.*|[;\s]", "", text.read_text())
-        yield text.with_suffix(""), bytes.fromhex(digits)
+        yield text.with_suffix(""), bytes_of(text)
 
 
 def last_line(prefix):
@@ -60,8 +91,9 @@ def masks(name, at):
 def whole(name, recording):
     lines = name.with_suffix(".lines").read_bytes()
     cells = name.with_suffix(".cells").read_bytes()
-    wanted = [(RUN, lines), (PEER, lines), (CELLS, cells), (PEER_CELLS, cells)]
-    if any(programs.run(program, recording) != (0, output, b"") for program, output in wanted):
+    pairs = zip(kind_of(recording).pairs(), (lines, cells))
+    if any(programs.run(program, recording) != (0, output, b"")
+           for pair, output in pairs for program in pair):
         return f"{name.name}: not as stored"
     binary = name.with_suffix(".bin")
     if binary.exists() and binary.read_bytes() != recording:
@@ -75,9 +107,9 @@ def pieces(program, name, recording, output, size):
     return None
 
 
-def cut(name, prefix, is_sound):
-    wanted = programs.run(PEER, prefix)
-    if programs.run(RUN, prefix) != wanted:
+def cut(kind, name, prefix, is_sound):
+    wanted = programs.run(kind.peer, prefix)
+    if programs.run(kind.run, prefix) != wanted:
         return f"{name}: cut after {len(prefix)} bytes"
     if is_sound and not wanted[1].endswith(last_line(prefix).encode()):
         return f"{name}: cut after {len(prefix)} bytes, the last line is {wanted[1][-20:]}"
@@ -85,9 +117,10 @@ def cut(name, prefix, is_sound):
 
 
 def damaged(name, recording, at, mask):
+    kind = kind_of(recording)
     changed = bytearray(recording)
     changed[at] ^= mask
-    if programs.run(CELLS, changed) != programs.run(PEER_CELLS, changed):
+    if programs.run(kind.cells, changed) != programs.run(kind.peer_cells, changed):
         return f"{name}: byte {at} changed by {mask:02X}"
     return None
 
@@ -145,10 +178,10 @@ def unreadable_input(program):
         os.close(folder)
 
 
-def broken_input(program, recording, *told):
+def broken_input(kind, program, recording, *told):
     """A terminal whose other side is closed hands over what came from there, and then fails. The
     lines are those of the whole fields: all that the peer prints of these bytes but the last."""
-    lines = programs.run(PEER, recording)[1].splitlines(keepends=True)[:-1]
+    lines = programs.run(kind.peer, recording)[1].splitlines(keepends=True)[:-1]
     near, far = pty.openpty()
     try:
         tty.setraw(far)
@@ -162,8 +195,8 @@ def broken_input(program, recording, *told):
 def launcher_without_room(word, recording):
     """./tray says that a line could not be written: first the system's reason, then its own."""
     with open("/dev/full", "wb") as sink:
-        done = subprocess.run([TRAY, word], input=recording, stdout=sink, stderr=subprocess.PIPE,
-                              timeout=SECONDS)
+        done = subprocess.run([LAUNCHER, word], input=recording, stdout=sink,
+                              stderr=subprocess.PIPE, timeout=SECONDS)
     if done.returncode != 1 or not done.stderr.endswith(b"\n" + BROKE_OFF):
         return f"no room: {word} left {done.returncode} {done.stderr!r}"
     return None
@@ -171,45 +204,49 @@ def launcher_without_room(word, recording):
 
 def main():
     stored = list(stored_recordings())
-    long = generate.recording(2, fields=20000, well_formed=True)
     checks = {"whole": [(whole, name, recording) for name, recording in stored]}
     checks["pieces"] = [(pieces, program, name.name, recording, output.read_bytes(), size)
                         for name, recording in stored
-                        for program, output in ((RUN, name.with_suffix(".lines")),
-                                                (CELLS, name.with_suffix(".cells")))
+                        for program, output in zip(kind_of(recording).ours(),
+                                                   (name.with_suffix(".lines"),
+                                                    name.with_suffix(".cells")))
                         for size in PIECES if size < 2 * len(recording)]
-    checks["pieces of a long one"] = [(pieces, ours, "long", long, programs.run(other, long)[1], size)
-                                      for ours, other in ((RUN, PEER), (CELLS, PEER_CELLS))
+    checks["pieces of a long one"] = [(pieces, ours, "long", kind.long, output, size)
+                                      for kind in KINDS for ours, other in kind.pairs()
+                                      for output in (programs.run(other, kind.long)[1],)
                                       for size in PIECES if size > 100]
     # many recordings begin alike: each beginning is run once
-    cuts = {recording[:end]: (name.name, not name.name.startswith("refused"))
+    cuts = {(kind_of(recording), recording[:end]):
+            (name.name, not name.name.startswith("refused"))
             for name, recording in stored for end in range(len(recording))}
-    checks["cuts"] = [(cut, name, prefix, is_sound) for prefix, (name, is_sound) in cuts.items()]
+    checks["cuts"] = [(cut, kind, name, prefix, is_sound)
+                      for (kind, prefix), (name, is_sound) in cuts.items()]
     checks["damaged bytes"] = [(damaged, name.name, recording, at, mask)
                                for name, recording in stored for at in range(len(recording))
                                for mask in masks(name, at)]
     checks["closed output"] = [(closed_output, program, recording, handler)
-                               for program in (RUN, CELLS) for recording in (stored[0][1], long)
+                               for kind in KINDS for program in kind.ours()
+                               for recording in (kind.broken, kind.long)
                                for handler in (signal.SIG_DFL, signal.SIG_IGN)]
     # inside the lines, at the end of a write, and inside state and cells
     checks["full output"] = [(full_output, ours, recording, output, room)
-                             for recording in (stored[0][1], long)
-                             for ours, other in ((RUN, PEER), (CELLS, PEER_CELLS))
+                             for kind in KINDS for recording in (kind.broken, kind.long)
+                             for ours, other in kind.pairs()
                              for output in (programs.run(other, recording)[1],)
                              for room in (0, 1, 50, 65535, 65536, 65537, len(output) - 1)
                              if room < len(output)]
     checks["failed input"] = [(check, program) for check in (closed_input, unreadable_input)
-                              for program in (RUN, CELLS)]
+                              for kind in KINDS for program in kind.ours()]
     # at each byte, with whole fields and inside one
-    broken = next(recording for name, recording in stored if name.name == EVERY_BIT)
-    checks["input that breaks off"] = [(broken_input, program, broken[:end])
-                                       for end in range(len(broken) + 1)
-                                       for program in (RUN, CELLS)]
-    checks["launcher, broken off"] = [(broken_input, [TRAY, word], broken[:end], 1, BROKE_OFF)
-                                      for word in ("run", "cells")
-                                      for end in (0, len(broken) - 1, len(broken))]
-    checks["launcher, no room"] = [(launcher_without_room, word, broken)
-                                   for word in ("run", "cells")]
+    checks["input that breaks off"] = [(broken_input, kind, program, kind.broken[:end])
+                                       for kind in KINDS for end in range(len(kind.broken) + 1)
+                                       for program in kind.ours()]
+    checks["launcher, broken off"] = [(broken_input, kind, [LAUNCHER, word], kind.broken[:end], 1,
+                                       BROKE_OFF)
+                                      for kind in KINDS for word in kind.words
+                                      for end in (0, len(kind.broken) - 1, len(kind.broken))]
+    checks["launcher, no room"] = [(launcher_without_room, word, kind.broken)
+                                   for kind in KINDS for word in kind.words]
     failures = 0
     with concurrent.futures.ThreadPoolExecutor(os.cpu_count()) as pool:
         for kind, calls in checks.items():

@@ -64,10 +64,21 @@ for name in tray eight skipped; do
     prints "examples/$name.bin" bytes "examples/$name.txt"
     prints "examples/$name.bin" bytes <"examples/$name.txt"
 done
+for name in orders silent; do
+    prints "examples/$name.lines" control "examples/$name.bin"
+    prints "examples/$name.lines" control <"examples/$name.bin"
+    prints "examples/$name.cells" control-cells "examples/$name.bin"
+    prints "examples/$name.bin" bytes "examples/$name.txt"
+done
 prints examples/tray.lines example
 echo 'END 0' >"$room/empty.lines"
 prints "$room/empty.lines" run /dev/null
+prints "$room/empty.lines" control /dev/null
+echo '! 6 0' >"$room/other.lines"       # each kind of recording given to the other's program
+prints "$room/other.lines" control examples/tray.bin
+prints "$room/other.lines" run examples/orders.bin
 refuses 'standard input is closed' run <&-
+refuses 'standard input is closed' control <&-
 cp examples/tray.bin "$room/a name of = - 3 words.bin"
 prints examples/tray.lines run "$room/a name of = - 3 words.bin"
 
@@ -88,8 +99,8 @@ tried=$((tried + 1))
 
 # ---- help
 tried=$((tried + 1))
-for word in example run cells bytes help; do
-    ./tray help | grep -q "^./tray $word" || wrong "help is silent about $word"
+for word in example run cells control control-cells bytes help; do
+    ./tray help | grep -q "^./tray $word " || wrong "help is silent about $word"
 done
 
 # ---- bad calls
@@ -97,11 +108,15 @@ refuses 'help'
 refuses 'walk is not a word' walk
 refuses 'no such file' run "$room/missing"
 refuses 'no such file' cells ''
+refuses 'no such file' control "$room/missing"
+refuses 'no such file' control-cells ''
 refuses 'no such file' bytes "$room/missing"
 refuses 'is a directory' run "$room"
 refuses 'is a directory' bytes examples
 refuses 'is a directory' run <examples
+refuses 'is a directory' control "$room"
 refuses 'one too many' run examples/tray.bin examples/tray.bin
+refuses 'one too many' control-cells examples/orders.bin examples/orders.bin
 refuses 'takes no file' example examples/tray.bin
 if ! (PATH=/usr/bin:/bin && command -v rt) >/dev/null; then
     tray='env PATH=/usr/bin:/bin ./tray'
@@ -133,20 +148,27 @@ END_OF_RT
 chmod +x "$room/bin/rt"
 tray="env RATTLE_HOME=$kit PATH=$room/bin:$PATH $room/own/tray"
 
-# builds: document 01's lines are printed once rt check was called
+# builds FILE PROGRAM WORDS..: the file is printed once rt check PROGRAM was called
 builds() {
-    call run examples/tray.bin
-    if ! cmp -s examples/tray.lines "$room/printed" || ! grep -q '^tray: proving' "$room/said" ||
-        ! grep -q '^rt: check tray_run$' "$room/said"; then
-        wrong "a call that builds: $(cat "$room/said")"
+    wanted=$1
+    program=$2
+    shift 2
+    call "$@"
+    if ! cmp -s "$wanted" "$room/printed" || ! grep -q '^tray: proving' "$room/said" ||
+        ! grep -q "^rt: check $program\$" "$room/said"; then
+        wrong "tray $* that builds: $(cat "$room/said")"
     fi
 }
-builds
+builds examples/tray.lines tray_run run examples/tray.bin
 prints examples/tray.lines example
 prints examples/tray.lines run examples/tray.bin
+builds examples/orders.lines controller_run control examples/orders.bin
+builds examples/orders.cells controller_cells control-cells examples/orders.bin
+prints examples/orders.lines control examples/orders.bin
 touch "$room/own/crates/some/source"
-builds
+builds examples/tray.lines tray_run run examples/tray.bin
 prints examples/tray.lines example
+builds examples/orders.lines controller_run control examples/orders.bin
 touch "$room/own/crates/some/fault"
 call example
 if [ "$status" -ne 2 ] || [ -s "$room/printed" ] ||

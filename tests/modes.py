@@ -53,7 +53,7 @@ KNOWN = {"replies", RESERVED.does, STORES, *SWITCHES, *SENDS, *KEEPS}
 
 def table_of_guide():
     rows = {}
-    section = GUIDE.read_text().split("## Mode commands\n")[1]
+    section = GUIDE.read_text().split("## Mode commands\n")[1].split("\n## ")[0]
     for first, last, cells in re.findall(r"^\| (\d+)(?: to (\d+))? \| (.*) \|$", section, re.M):
         for code in range(int(first), int(last or first) + 1):
             rows[code] = Row(*(cell.strip() for cell in cells.split("|")))
