@@ -6,7 +6,7 @@ use Prim.Native.Nat.{ℕ, _+_, _-_, _≤_, _<_, _%_, _^_}
 use native.Mathlib.Omega.{arith}
 use lib.Dec.{eqb}
 use lib.ListN.{length}
-use borrow.Author.Tests.{eq-eqb, ne-eqb, lt-ltb, le-ltb}
+use borrow.Author.Tests.{eq-eqb, ne-eqb}
 use Rattle.rules.proofs.Choices.{by-test}
 use Rattle.recording.specs.declared.seen.Seen.{Seen}
 use Rattle.recording.specs.Value.{Valued, valuedAt}
@@ -19,6 +19,7 @@ use Rattle.pieces.specs.declared.stop.Stop.{Stop}
 use Rattle.pieces.specs.declared.stop.Stop.the-variants.{Going, Full}
 use Rattle.pieces.specs.Course.{mayGoOn}
 use Rattle.pieces.specs.AsCoded.Window as pieces
+use Rattle.pieces.proofs.TurnLaws as general
 use Rattle.controller.specs.Control.{codeIn}
 use Rattle.controller.specs.State.{Desk, desk}
 use Rattle.controller.specs.Start.{Started, mayStart, starting, startingBy, startStep}
@@ -173,17 +174,18 @@ module _ (ran : HeldPassed) (ram out window : List ℕ) (last : Bool) (room : �
   pub turn-full : (left : HeldPassed) → room < lineRoom
       → left ≡ record { run = ran .run; at = ran .at; put = ran .put; stop = Full }
       → passedOf left ram out ≡ turned
-  unfolding pieces.turn
   turn-full left short is-left =
-      rw (is-left, lt-ltb (length out - ran .put) lineRoom (rw is-room at short))
+      rw is-left (general.turn-full deskCourse window last before (rw is-room at short))
 
   module _ (reading : Reading) (enough : lineRoom ≤ room)
       (is-reading : reading ≡ readAt window (ran .at) (ran .run .seen)) where
     turn-by : pieces.passing deskCourse
         (metBy reading window (ran .at) (runOf (ran .run) ram)) last before
         ≡ turned
-    unfolding pieces.turn deskCourse
-    turn-by = rw (is-reading, le-ltb (length out - ran .put) lineRoom (rw is-room at enough))
+    unfolding deskCourse
+    turn-by =
+        general.turn-by deskCourse window last before (rw is-room at enough)
+        (ap (λ (any : Reading). metBy any window (ran .at) (before .run)) (sym is-reading))
 
     pub turn-takes : (told : Field) (next : ℕ) (new : pieces.Passed Run)
         → reading ≡ Taken told next
