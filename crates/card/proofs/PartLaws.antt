@@ -31,7 +31,8 @@ module _ (blocks most size : ℕ) (block : Block) (count : ℕ) where
         | yes is ↦ is
         | no other ↦ omega (arith, rw (ne-eqb size (wordsIn blocks) other) at none)
       ] in
-      let number : ℕ = cond (isBlock blocks block && leb 1 count && leb count most && leb count blockCells) 0 8 in
+      let number : ℕ =
+      cond (isBlock blocks block && leb 1 count && leb count most && leb count blockCells) 0 8 in
       let asked : number ≡ 0 =
       rw (eq-eqb size (wordsIn blocks) whole-card) at none in
       let on-card : block .0 < blocks =

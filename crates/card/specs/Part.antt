@@ -8,8 +8,8 @@ use lib.ListN.{length, take, drop}
 use Rattle.card.specs.declared.place.Block.{Block}
 use Rattle.card.specs.Memory.{blockCells, wordsIn, theCell, isBlock, wordAddress}
 
--- 1 where the RAM is not that of so many blocks; 8 where the block is none of them, or the count not
--- 1 to the most or more than a block has
+-- 1 where the RAM is not that of so many blocks; 8 where the block is none of them, or the count
+-- not 1 to the most, or more than a block has
 unfoldable pub partRefusal : ℕ → ℕ → ℕ → Block → ℕ → ℕ
 partRefusal blocks most size block count =
     cond (eqb size (wordsIn blocks))

@@ -38,7 +38,8 @@ pub order-read : (state : Controller) (ram : List ℕ) (row : Row) (broadcast : 
 order-read state ram row broadcast block first second is-block is-first is-second =
     rw (← is-block, ← is-first, ← is-second)
 
-module _ (state : Controller) (ram : List ℕ) (idle : Bool) (is-idle : idle ≡ isIdle (state .message))
+module _ (state : Controller) (ram : List ℕ) (idle : Bool)
+    (is-idle : idle ≡ isIdle (state .message))
   where
     pub none-starts : not (state .due && idle && leb 1 (state .count)) ≡ true
         → startedAs 0 Nothing (desk state ram) ≡ startStep (desk state ram)

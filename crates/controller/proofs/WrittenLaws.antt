@@ -68,7 +68,8 @@ module _ (word : Word) (old : Desk) (message : OpenMessage)
   act-writes (Take cell next) (taken least most) =
       record {
         same-length =
-            length-with-cell (old .ram) (blockIn (old .state .control)) (theCell cell) (word .value);
+            length-with-cell (old .ram) (blockIn (old .state .control)) (theCell cell)
+            (word .value);
         same-else = λ address else.
             cell-keeps (blockIn (old .state .control)) (theCell cell) (word .value) .same-else
             (old .ram) address

@@ -1,5 +1,5 @@
--- The controller's actions with their refusals: rules 2 and 9 of K10. A refusal gives its number and
--- leaves everything as it was given; no state is unfit. Definitions only. Assumes nothing.
+-- The controller's actions with their refusals: rules 2 and 9 of K10. A refusal gives its number
+-- and leaves everything as it was given; no state is unfit. Definitions only. Assumes nothing.
 use mathlib.Core.Bool.{Bool, cond, not}
 use Prim.Native.Nat.{ℕ}
 use lib.Dec.{eqb}

@@ -1,5 +1,6 @@
--- Each public contract of the crate allows one outcome alone: one reading, one run, one place in the
--- window, one reason to stop, and one content of every cell and byte that was lent. Assumes nothing.
+-- Each public contract of the crate allows one outcome alone: one reading, one run, one place in
+-- the window, one reason to stop, and one content of every cell and byte that was lent.
+-- Assumes nothing.
 use denote.Ref.{now}
 use Rattle.rules.proofs.Determined.{Determined, DeterminedAs, same}
 use Rattle.pieces.specs.AsCoded.Window.{Passed}

@@ -60,7 +60,8 @@ module _ (bytes : List ℕ) (place : ℕ) (seen : Seen) where
   own-within : (size : ℕ) (due : Bool) → eqb (ownRefusal bytes place size due) 0 ≡ true
       → Within (place + 3 + size)
   own-within size due none =
-      let whole = own-whole bytes place size due (eqb-true (ownRefusal bytes place size due) 0 none) in
+      let number : ℕ = ownRefusal bytes place size due in
+      let whole = own-whole bytes place size due (eqb-true number 0 none) in
       record { moves-on = omega arith; ends-inside = omega (arith, whole) }
 
   own-refused : (size : ℕ) (due : Bool) → size ≤ 4
@@ -82,7 +83,8 @@ module _ (bytes : List ℕ) (place : ℕ) (seen : Seen) where
       (record { moves-on = within .moves-on; ends-inside = within .ends-inside })
       is
   shared-tells shared.End is = the-end (few-at-the-end bytes place seen is)
-  shared-tells (shared.Refused number named) is = a-refusal number (few-at-a-refusal bytes place seen is)
+  shared-tells (shared.Refused number named) is =
+      a-refusal number (few-at-a-refusal bytes place seen is)
 
   pub reading-tells : Tells (readAt bytes place seen)
   unfolding readAt ownAt

@@ -105,7 +105,8 @@ module _ (ran : HeldPassed) (ram out window : List ℕ) (last : Bool) (told : Fi
   deed = deedOf window told (desk (ran .run .controller) ram)
 
   abbrev passes : pieces.Passed Run
-  passes = pieces.passing deskCourse (tookBy told (ran .at) next deed (runOf (ran .run) ram)) last old
+  passes =
+      pieces.passing deskCourse (tookBy told (ran .at) next deed (runOf (ran .run) ram)) last old
 
   pub field-taken : (out′ : List ℕ) (put′ fields offset : ℕ) (seen : Seen)
       → left .refusal ≡ 0

@@ -70,8 +70,8 @@ module _ (front back : List ℕ) where
       open-way isSettledNumber 5 (ltb left 3) (ltb left′ 3) refl (still 3) (λ long.
       rw (word-of-more front back 1 (omega (arith, ltb-false left 3 long)))
       (same-way isSettledNumber 7 (not (eqb (wordAt front 1) size)) (λ _.
-      open-way isSettledNumber 5 (ltb left (3 + size)) (ltb left′ (3 + size)) refl (still (3 + size))
-      (λ _. same isSettledNumber))))
+      open-way isSettledNumber 5 (ltb left (3 + size)) (ltb left′ (3 + size)) refl
+      (still (3 + size)) (λ _. same isSettledNumber))))
 
   own-stays : (size : ℕ) (due : Bool) (field field′ : Field)
       → (3 + size ≤ bytesLeft front 0 → field′ ≡ field)

@@ -40,7 +40,8 @@ module _ {start : Run} (run : HeldRun) (pump : Pump) (ram window out : List ℕ)
   -- a call, and what it leaves to do
   pub pumping-on : (ran : HeldPassed) (ram′ out′ : List ℕ)
       → passedOf ran ram′ out′
-      ≡ windowRun deskCourse (runOf run ram) (take (pump .have - 0) (drop 0 window)) (pump .ended) out
+      ≡ windowRun deskCourse (runOf run ram) (take (pump .have - 0) (drop 0 window))
+      (pump .ended) out
       → (next : Pump) (window′ : List ℕ) → 0 < left → pump .over ≡ false
       → Settled pump window (ran .at) (ran .put) (ran .stop) next window′
       → length ram′ ≡ length ram → length window′ ≡ length window → length out′ ≡ length out

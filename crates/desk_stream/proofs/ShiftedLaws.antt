@@ -1,5 +1,5 @@
--- What the reader finds at a place is what it finds at the front of the bytes from there on, so that
--- a run meets the same. Assumes nothing.
+-- What the reader finds at a place is what it finds at the front of the bytes from there on, so
+-- that a run meets the same. Assumes nothing.
 use mathlib.Core.Path.{_≡_, refl, sym, ap, _∙_}
 use mathlib.Core.Bool.{Bool, not}
 use mathlib.Core.List.{List}

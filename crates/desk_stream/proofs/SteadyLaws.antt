@@ -48,7 +48,8 @@ pub record TakenSo (old : Run) (bytes : List ℕ) (at next : ℕ) (line : List �
   pub field : Field
   pub is-read : readAt bytes at (old .seen) ≡ Taken field next
   pub is-line :
-      answerLine (deedOf bytes field (old .desk) .desk .ram) (deedOf bytes field (old .desk) .answer)
+      answerLine (deedOf bytes field (old .desk) .desk .ram)
+      (deedOf bytes field (old .desk) .answer)
       ≡ line
 
 module _ (old : Run) (bytes : List ℕ) (at : ℕ) where

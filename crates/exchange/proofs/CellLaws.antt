@@ -37,8 +37,8 @@ module _ (order : Order) (exchange : Exchange) (word : Word) where
   unfolding statusHeard
   of-status cell station next least most =
       by-test (BehindGiven order) (not (word .sync)) (λ is. not-taken)
-      (λ is. by-test (BehindGiven order) (not (eqb (addressOf (word .value)) station)) (λ is. not-taken)
-      (λ is. taken least most))
+      (λ is. by-test (BehindGiven order) (not (eqb (addressOf (word .value)) station))
+      (λ is. not-taken) (λ is. taken least most))
 
   of-data : (complete : Bool) (first : ℕ) → formatFor order .given ≤ first
       → (complete ≡ false → first + exchange .taken ≤ highestCell)
@@ -74,4 +74,5 @@ module _ (order : Order) (exchange : Exchange) (word : Word) where
   pub stored-behind-given : BehindGiven order (onWord order exchange word)
   unfolding onWord
   stored-behind-given =
-      by-test (BehindGiven order) (not (word .sound)) (λ is. not-taken) (λ is. of-stage (exchange .stage))
+      by-test (BehindGiven order) (not (word .sound)) (λ is. not-taken)
+      (λ is. of-stage (exchange .stage))

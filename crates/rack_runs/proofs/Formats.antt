@@ -65,8 +65,8 @@ every-format-carries-the-same-words : map found tenFormats ≡ map (λ case. cas
 unfolding told cases allOf endsOf seen
 every-format-carries-the-same-words = refl
 
--- "synchronize" has no data word: cells 58 to 61 of block 3 and the link, which goes into table cell
--- 31, are all that it changes in the memory of station 5, and station 9 is as before
+-- "synchronize" has no data word: cells 58 to 61 of block 3 and the link, which goes into table
+-- cell 31, are all that it changes in the memory of station 5, and station 9 is as before
 a-mode-command-alone-writes-no-other-cell :
     map (λ (terminal : Card). terminal .ram)
     (message clock (twoStations 3 (0x2C01 ∷ [])) .terminals)

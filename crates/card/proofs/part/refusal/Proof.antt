@@ -33,4 +33,5 @@ unfolding partRefusal
 returns-6 c = search cases depth 9
 
 pub refusal-spec : {M : Type 1} → statement M
-refusal-spec = tie.close (tie.spec mul-size returns returns-2 returns-3 returns-4 returns-5 returns-6)
+refusal-spec =
+    tie.close (tie.spec mul-size returns returns-2 returns-3 returns-4 returns-5 returns-6)

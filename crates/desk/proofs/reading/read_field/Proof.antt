@@ -26,7 +26,8 @@ shared-slice-read-of-bytes c =
     let start = c .before .before .before .before .before .before .before in
     omega (
       arith,
-      own-whole (start .args .bytes .now) (start .args .place) 4 (not (start .args .seen .setup)) (search needs),
+      own-whole (start .args .bytes .now) (start .args .place) 4
+          (not (start .args .seen .setup)) (search needs),
     )
 
 add-of-bytes-2 : tie.Need-add-of-bytes-2
@@ -37,7 +38,8 @@ shared-slice-read-of-bytes-2 c =
     let start = c .before .before .before .before .before .before .before .before in
     omega (
       arith,
-      own-whole (start .args .bytes .now) (start .args .place) 4 (not (start .args .seen .setup)) (search needs),
+      own-whole (start .args .bytes .now) (start .args .place) 4
+          (not (start .args .seen .setup)) (search needs),
     )
 
 of-bytes-requires : tie.Need-of-bytes-requires
@@ -51,7 +53,8 @@ shared-slice-read-of-bytes-3 c =
     let start = c .before .before .before .before .before .before .before .before .before .before in
     omega (
       arith,
-      own-whole (start .args .bytes .now) (start .args .place) 4 (not (start .args .seen .setup)) (search needs),
+      own-whole (start .args .bytes .now) (start .args .place) 4
+          (not (start .args .seen .setup)) (search needs),
     )
 
 add-of-bytes-4 : tie.Need-add-of-bytes-4
@@ -59,10 +62,12 @@ add-of-bytes-4 c = search needs
 
 shared-slice-read-of-bytes-4 : tie.Need-shared-slice-read-of-bytes-4
 shared-slice-read-of-bytes-4 c =
-    let start = c .before .before .before .before .before .before .before .before .before .before .before in
+    let behind = c .before .before .before .before .before .before in
+    let start = behind .before .before .before .before .before in
     omega (
       arith,
-      own-whole (start .args .bytes .now) (start .args .place) 4 (not (start .args .seen .setup)) (search needs),
+      own-whole (start .args .bytes .now) (start .args .place) 4
+          (not (start .args .seen .setup)) (search needs),
     )
 
 of-bytes-requires-2 : tie.Need-of-bytes-requires-2
