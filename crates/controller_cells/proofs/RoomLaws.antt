@@ -3,7 +3,7 @@
 use mathlib.Core.Path.{_≡_}
 use mathlib.Core.Bool.{Bool, true, false, cond}
 use mathlib.Core.List.{List, _++_}
-use Prim.Native.Nat.{ℕ, _+_, _≤_}
+use Prim.Native.Nat.{ℕ}
 use native.Mathlib.Omega.{arith}
 use lib.ListN.{length, take}
 use Rattle.exchange.specs.declared.order.Order.{Order}
@@ -45,6 +45,7 @@ use Rattle.controller_cells.specs.State.{
   stageText,
   progressText,
   messageText,
+  wordsText,
   controllerText,
   stateText,
 }
@@ -84,7 +85,7 @@ of-message Idle = record { bound = omega arith }
 of-message (Open message) = both (of-order (message .order)) (of-progress (message .progress))
 
 of-controller : (state : Controller) → AtMost 262 (controllerText state)
-unfolding controllerText
+unfolding controllerText wordsText
 of-controller state =
     both (both (both (both (named (bytes "control ") newline (of-word (state .control)))
     (named (bytes "count ") newline (of-decimal (state .count))))

@@ -4,6 +4,7 @@ use mathlib.Core.Path.{_≡_}
 use mathlib.Core.Bool.{Bool, true, false}
 use mathlib.Core.List.{List}
 use Prim.Native.Nat.{ℕ}
+use Rattle.formats.specs.declared.row.Row.{Row}
 use Rattle.exchange.specs.declared.order.Order.{Order}
 use Rattle.exchange.specs.declared.state.Stage.{Stage}
 use Rattle.exchange.specs.declared.state.Stage.the-variants.{
@@ -34,11 +35,17 @@ use Rattle.controller_cells.specs.State.{
   stageText,
   progressText,
   messageText,
+  wordsText,
   controllerText,
   stateText,
 }
 
 -- ---- one part
+
+-- the row tells its number
+pub numbered : (row named : Row) (number : ℕ) → row ≡ named → number ≡ rowNumber named
+    → number ≡ rowNumber row
+numbered row named number is counted = rw is counted
 
 module _ {out : List ℕ} {at : ℕ} {after : List ℕ} {next : ℕ} where
   pub result-none : (result : Result) → result ≡ Absent
@@ -46,6 +53,11 @@ module _ {out : List ℕ} {at : ℕ} {after : List ℕ} {next : ℕ} where
       → Fits out at (resultText result) after next
   unfolding resultText
   result-none result is fits = rw is fits
+
+  pub row-fits : (row : Row) (number : ℕ) → number ≡ rowNumber row
+      → Fits out at (part "open row " (decimal number)) after next
+      → Fits out at (part "open row " (decimal (rowNumber row))) after next
+  row-fits row number is fits = rw (← is) fits
 
   module _ (stage : Stage) where
     pub stage-awaiting : stage ≡ Awaiting → Fits out at (bytes "stage awaiting ") after next
@@ -118,25 +130,28 @@ module _ {out out₁ : List ℕ} {at at₁ : ℕ} where
     progress-back progress answer is first second third =
         rw is (fits-then (fits-then first second) third)
 
-    module _ {out₃ : List ℕ} {at₃ : ℕ} where
-      pub order-fits : {after : List ℕ} {next : ℕ} (order : Order) (row : ℕ)
-          → row ≡ rowNumber (order .row)
-          → Fits out at (part "open row " (decimal row)) out₁ at₁
-          → Fits out₁ at₁ (part "group " (markText (order .broadcast))) out₂ at₂
-          → Fits out₂ at₂ (part "first " (hexWord (order .first))) out₃ at₃
-          → Fits out₃ at₃ (part "second " (hexWord (order .second))) after next
-          → Fits out at (orderText order) after next
-      unfolding orderText
-      order-fits order row is first second third fourth =
-          rw (← is) (fits-then (fits-then (fits-then first second) third) fourth)
+    pub words-fits : {after : List ℕ} {next : ℕ} (state : Controller)
+        → Fits out at (line "control " (hexWord (state .control))) out₁ at₁
+        → Fits out₁ at₁ (line "count " (decimal (state .count))) out₂ at₂
+        → Fits out₂ at₂ (line "due " (markText (state .due))) after next
+        → Fits out at (wordsText state) after next
+    unfolding wordsText
+    words-fits state first second third = fits-then (fits-then first second) third
 
-      pub controller-fits : {out₄ after : List ℕ} {at₄ next : ℕ} (state : Controller)
-          → Fits out at (line "control " (hexWord (state .control))) out₁ at₁
-          → Fits out₁ at₁ (line "count " (decimal (state .count))) out₂ at₂
-          → Fits out₂ at₂ (line "due " (markText (state .due))) out₃ at₃
-          → Fits out₃ at₃ (resultText (state .result)) out₄ at₄
-          → Fits out₄ at₄ (messageText (state .message)) after next
-          → Fits out at (controllerText state) after next
-      unfolding controllerText
-      controller-fits state first second third fourth fifth =
-          fits-then (fits-then (fits-then (fits-then first second) third) fourth) fifth
+    pub controller-fits : {after : List ℕ} {next : ℕ} (state : Controller)
+        → Fits out at (wordsText state) out₁ at₁
+        → Fits out₁ at₁ (resultText (state .result)) out₂ at₂
+        → Fits out₂ at₂ (messageText (state .message)) after next
+        → Fits out at (controllerText state) after next
+    unfolding controllerText
+    controller-fits state first second third = fits-then (fits-then first second) third
+
+    pub order-fits : {out₃ after : List ℕ} {at₃ next : ℕ} (order : Order)
+        → Fits out at (part "open row " (decimal (rowNumber (order .row)))) out₁ at₁
+        → Fits out₁ at₁ (part "group " (markText (order .broadcast))) out₂ at₂
+        → Fits out₂ at₂ (part "first " (hexWord (order .first))) out₃ at₃
+        → Fits out₃ at₃ (part "second " (hexWord (order .second))) after next
+        → Fits out at (orderText order) after next
+    unfolding orderText
+    order-fits order first second third fourth =
+        fits-then (fits-then (fits-then first second) third) fourth

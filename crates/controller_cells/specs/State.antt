@@ -78,15 +78,17 @@ messageText (Open message) = orderText (message .order) ++ progressText (message
 
 -- ---- the controller
 
--- every item: the control word, the starts left, whether its message is due, the last result, the
--- open message
-unfoldable pub controllerText : Controller → List ℕ
-controllerText state =
+-- the control word, the starts left, and whether its message is due
+unfoldable pub wordsText : Controller → List ℕ
+wordsText state =
     line "control " (hexWord (state .control))
     ++ line "count " (decimal (state .count))
     ++ line "due " (markText (state .due))
-    ++ resultText (state .result)
-    ++ messageText (state .message)
+
+-- every item
+unfoldable pub controllerText : Controller → List ℕ
+controllerText state =
+    wordsText state ++ resultText (state .result) ++ messageText (state .message)
 
 -- before a setup was taken there is no control word
 unfoldable pub stateText : HeldRun → List ℕ

@@ -1,6 +1,7 @@
 // The lines of the controller's state, an item a line. Every function here that puts text puts it
 // into the lent buffer from a place on, as much as there is room for, and answers the next place.
 ghost use mathlib.Core.Path.{_≡_};
+ghost use Rattle.lines.specs.Digits.{decimal};
 ghost use Rattle.lines.specs.Written.{put};
 ghost use Rattle.shown.specs.Text.{fitted, Fits};
 ghost use Rattle.shown.specs.Item.{part};
@@ -11,6 +12,7 @@ ghost use Rattle.controller_cells.specs.State.{
   stageText,
   progressText,
   messageText,
+  wordsText,
   controllerText,
   stateText,
 };
@@ -54,13 +56,21 @@ fn row_number(row: Row) -> u16
     }
 }
 
+fn put_row(out: &mut [u8], at: usize, row: Row) -> usize
+    ensures { λ next. ⌜ Fits (now (out .entry)) at (part "open row " (decimal (rowNumber row)))
+        (now (out .exit)) next ⌝ }
+{
+    let number = row_number(row);
+    item::put_number(out, at, b"open row ", number, b' ')
+}
+
 // What was asked.
 fn put_order(out: &mut [u8], at: usize, order: Order) -> usize
     ensures { λ next. ⌜ Fits (now (out .entry)) at (orderText order)
         (now (out .exit)) next ⌝ }
 {
-    let row = row_number(order.row);
-    let first = item::put_number(out, at, b"open row ", row, b' ');
+    let row = order.row;
+    let first = put_row(out, at, row);
     let second = item::put_mark(out, first, b"group ", order.broadcast, b' ');
     let third = item::put_word(out, second, b"first ", order.first, b' ');
     item::put_word(out, third, b"second ", order.second, b' ')
@@ -111,17 +121,25 @@ fn put_message(out: &mut [u8], at: usize, message: Message) -> usize
 
 // ---- the controller
 
+// Control word, starts left, and whether its message is due.
+fn put_words(out: &mut [u8], at: usize, controller: Controller) -> usize
+    ensures { λ next. ⌜ Fits (now (out .entry)) at (wordsText controller)
+        (now (out .exit)) next ⌝ }
+{
+    let first = item::put_word(out, at, b"control ", controller.control, b'\n');
+    let second = item::put_number(out, first, b"count ", controller.count, b'\n');
+    item::put_mark(out, second, b"due ", controller.due, b'\n')
+}
+
 fn put_controller(out: &mut [u8], at: usize, controller: Controller) -> usize
     ensures { λ next. ⌜ Fits (now (out .entry)) at (controllerText controller)
         (now (out .exit)) next ⌝ }
 {
     let result = controller.result;
     let message = controller.message;
-    let first = item::put_word(out, at, b"control ", controller.control, b'\n');
-    let second = item::put_number(out, first, b"count ", controller.count, b'\n');
-    let third = item::put_mark(out, second, b"due ", controller.due, b'\n');
-    let fourth = put_result(out, third, result);
-    put_message(out, fourth, message)
+    let first = put_words(out, at, controller);
+    let second = put_result(out, first, result);
+    put_message(out, second, message)
 }
 
 // Every item of the state. Before a setup was taken there is no control word.
