@@ -28,7 +28,8 @@ use Rattle.shown.proofs.cells.put_cells.Reads as put-cells-reads
 
 -- two texts that are put as `Fits` says are put the same
 alike : {out text after after′ : List ℕ} {at next next′ : ℕ}
-    → Fits out at text after next → Fits out at text after′ next′ → put next after ≡ put next′ after′
+    → Fits out at text after next → Fits out at text after′ next′
+    → put next after ≡ put next′ after′
 alike fits fits′ = same (fits .is-fitted) (fits′ .is-fitted)
 
 pub put-text :

@@ -1,6 +1,11 @@
 -- `controller_cells::state::put_stage` meets its contract: a law for each stage. Assumes nothing.
 use borrow.Author.Needs.{needs}
-use Rattle.controller_cells.proofs.StateLaws.{stage-awaiting, stage-reply, stage-last, stage-ended}
+use Rattle.controller_cells.proofs.StateLaws.{
+  stage-awaiting,
+  stage-reply,
+  stage-last,
+  stage-ended,
+}
 use Rattle.controller_cells.proofs.state.put_stage.Statement.{statement}
 use Rattle.controller_cells.proofs.state.put_stage.Tie as tie
 
