@@ -28,7 +28,6 @@ use Rattle.shown.specs.Cells.{cellLines}
 use Rattle.shown.proofs.TextLaws.{fits-then}
 use Rattle.shown.proofs.RoomLaws.{
   AtMost,
-  weaker,
   both,
   named,
   of-decimal,

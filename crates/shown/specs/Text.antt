@@ -17,6 +17,6 @@ bytes (letter ∷ᵗ text) = code letter ∷ bytes text
 unfoldable pub fitted : List ℕ → ℕ → List ℕ → Put
 fitted out at text = stored out at (take (length out - at) text)
 
--- a part of the text is put so, for the functions that put the parts
+-- a text is put so, which may be a part of a longer one
 pub record Fits (out : List ℕ) (at : ℕ) (text after : List ℕ) (next : ℕ) : Type 0 where
   pub is-fitted : put next after ≡ fitted out at text

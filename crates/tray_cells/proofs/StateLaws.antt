@@ -29,7 +29,7 @@ use Rattle.lines.specs.Lines.{blank, newline}
 use Rattle.lines.specs.Written.{Put, put}
 use Rattle.tray.specs.declared.run.Tray.{Tray as HeldTray}
 use Rattle.shown.specs.Text.{bytes, fitted, Fits}
-use Rattle.shown.specs.Item.{part, line, markText, item}
+use Rattle.shown.specs.Item.{part, line, markText}
 use Rattle.tray_cells.specs.State.{
   timeText,
   lineName,

@@ -27,10 +27,6 @@ use Rattle.tray.specs.declared.run.Tray.{Tray as HeldTray}
 use Rattle.shown.specs.Text.{bytes}
 use Rattle.shown.specs.Item.{item, part, line, markText}
 
--- a time has 32 bits
-abbrev pub timeText : ℕ → List ℕ
-timeText time = hexWord (time / 65536 % 65536) ++ hexWord (time % 65536)
-
 -- ---- the open message
 
 -- the bus line that its command came on
@@ -41,6 +37,10 @@ lineName line = cond line (bytes "B") (bytes "A")
 abbrev pub secondText : Second → List ℕ
 secondText Absent = bytes "none"
 secondText (Command command) = hexWord command
+
+-- a time has 32 bits
+abbrev pub timeText : ℕ → List ℕ
+timeText time = hexWord (time / 65536 % 65536) ++ hexWord (time % 65536)
 
 -- what the message waits for
 abbrev pub stageText : Stage → List ℕ

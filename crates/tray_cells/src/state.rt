@@ -3,7 +3,7 @@
 ghost use mathlib.Core.Path.{_≡_};
 ghost use mathlib.Core.List.{_∷_};
 ghost use Prim.Native.Nat.{_%_};
-ghost use Rattle.lines.specs.Digits.{hexByte, hexWord, decimal};
+ghost use Rattle.lines.specs.Digits.{hexByte, decimal};
 ghost use Rattle.lines.specs.Lines.{blank};
 ghost use Rattle.lines.specs.Written.{put};
 ghost use Rattle.shown.specs.Text.{fitted, Fits};
