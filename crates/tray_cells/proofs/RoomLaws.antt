@@ -1,15 +1,13 @@
 -- What the program prints of state and cells is whole: both texts have room in its buffer, so that
 -- `fitted` cuts nothing. Assumes nothing.
-use mathlib.Core.Path.{_≡_, sym, ap, _∙_}
+use mathlib.Core.Path.{_≡_}
 use mathlib.Core.Bool.{Bool, true, false, cond}
 use mathlib.Core.List.{List, [], _∷_, _++_}
-use Prim.Native.Nat.{ℕ, zero, suc, _+_, _-_, _*_, _/_, _%_, _≤_}
+use Prim.Native.Nat.{ℕ, zero, suc, _+_, _*_, _/_, _%_, _≤_}
 use native.Mathlib.Nat.{le-refl}
 use native.Mathlib.Omega.{arith}
 use lib.Dec.{eqb}
-use lib.ListN.{length, take, getD, length-append}
-use lib.Seq.{take-all}
-use Rattle.bits.specs.Bit.{weightOf}
+use lib.ListN.{length, take, getD}
 use Rattle.queue.specs.declared.Ring.{Ring}
 use Rattle.queue.specs.Queue.{queuePlaces}
 use Rattle.message.specs.declared.state.Stage.{Stage}
@@ -26,16 +24,26 @@ use Rattle.message.specs.declared.state.Message.{Message}
 use Rattle.message.specs.declared.state.Message.the-variants.{Idle, Open}
 use Rattle.terminal.specs.declared.state.Core.{Core}
 use Rattle.terminal.specs.declared.state.Held.{Held}
-use Rattle.lines.specs.Digits.{hexByte, hexWord, decimal}
 use Rattle.lines.specs.Lines.{blank, newline}
-use Rattle.lines.specs.Written.{Put, put, stored}
-use Rattle.lines.proofs.DecimalLaws.{length-decimal}
-use Rattle.lines.proofs.Lengths.{length-hex-byte, length-hex-word}
-use Rattle.lines.proofs.WrittenLaws.{in-room, take-written}
+use Rattle.lines.specs.Written.{put}
 use Rattle.tray.specs.declared.run.Tray.{Tray as HeldTray}
-use Rattle.tray_cells.specs.Text.{bytes, fitted, Fits}
+use Rattle.shown.specs.Text.{bytes, fitted, Fits}
+use Rattle.shown.specs.Item.{item}
+use Rattle.shown.specs.Cells.{cellLines}
+use Rattle.shown.proofs.TextLaws.{fits-then}
+use Rattle.shown.proofs.RoomLaws.{
+  AtMost,
+  weaker,
+  both,
+  named,
+  of-decimal,
+  of-mark,
+  of-byte,
+  of-word,
+  of-cells,
+  put-whole,
+}
 use Rattle.tray_cells.specs.State.{
-  item,
   lineName,
   secondText,
   stageText,
@@ -54,45 +62,6 @@ use Rattle.tray_cells.specs.State.{
   terminalText,
   stateText,
 }
-use Rattle.tray_cells.specs.Cells.{cellText, cellLines}
-use Rattle.tray_cells.proofs.TextLaws.{fits-then}
-
--- ---- how long a text is at the most
-
-record AtMost (most : ℕ) (text : List ℕ) : Type 0 where
-  bound : length text ≤ most
-
-weaker : {few most : ℕ} {text : List ℕ} → AtMost few text → few ≤ most → AtMost most text
-weaker short fewer = record { bound = omega (arith, short .bound) }
-
-both : {some more : ℕ} {text other : List ℕ} → AtMost some text → AtMost more other
-    → AtMost (some + more) (text ++ other)
-both {text = text} {other = other} first second =
-    record {
-      bound = omega (arith, length-append text other, first .bound, second .bound);
-    }
-
-named : {most : ℕ} {value : List ℕ} (name : List ℕ) (last : ℕ) → AtMost most value
-    → AtMost (length name + most + 1) (item name value last)
-named {value = value} name last short =
-    record {
-      bound =
-          omega (
-            arith,
-            length-append (name ++ value) (last ∷ []),
-            length-append name value,
-            short .bound,
-          );
-    }
-
-of-decimal : (number : ℕ) → AtMost 20 (decimal number)
-of-decimal number = record { bound = length-decimal number }
-
-of-byte : (byte : ℕ) → AtMost 2 (hexByte byte)
-of-byte byte = record { bound = omega (arith, length-hex-byte byte) }
-
-of-word : (word : ℕ) → AtMost 4 (hexWord word)
-of-word word = record { bound = omega (arith, length-hex-word word) }
 
 -- ---- the state
 
@@ -121,9 +90,9 @@ of-fixed : (message : OpenMessage) → AtMost 108 (fixedText message)
 unfolding fixedText
 of-fixed message =
     both (both (both (named (bytes "table ") blank (of-decimal (message .table .0)))
-    (named (bytes "moved ") blank (of-decimal (weightOf (message .moved) 1))))
-    (named (bytes "busy ") blank (of-decimal (weightOf (message .busy) 1))))
-    (named (bytes "queued ") blank (of-decimal (weightOf (message .queued) 1)))
+    (named (bytes "moved ") blank (of-mark (message .moved))))
+    (named (bytes "busy ") blank (of-mark (message .busy))))
+    (named (bytes "queued ") blank (of-mark (message .queued)))
 
 of-progress : (message : OpenMessage) → AtMost 70 (progressText message)
 unfolding progressText
@@ -170,7 +139,7 @@ of-queue : (places : List ℕ) (ring : Ring)
     → AtMost (30 + (21 * ring .count + 13)) (queueText places ring)
 unfolding queueText
 of-queue places ring =
-    both (named (bytes "overflow ") newline (of-decimal (weightOf (ring .overflow) 1)))
+    both (named (bytes "overflow ") newline (of-mark (ring .overflow)))
     (of-waiting places ring)
 
 of-words : (core : Core) → AtMost 65 (wordsText core)
@@ -189,9 +158,9 @@ of-remembered core =
 of-switches : (core : Core) → AtMost 85 (switchesText core)
 unfolding switchesText
 of-switches core =
-    both (both (named (bytes "shut A ") newline (of-decimal (weightOf (core .shut .a) 1)))
-    (named (bytes "shut B ") newline (of-decimal (weightOf (core .shut .b) 1))))
-    (named (bytes "inhibit ") newline (of-decimal (weightOf (core .inhibit) 1)))
+    both (both (named (bytes "shut A ") newline (of-mark (core .shut .a)))
+    (named (bytes "shut B ") newline (of-mark (core .shut .b))))
+    (named (bytes "inhibit ") newline (of-mark (core .inhibit)))
 
 of-terminal : (held : Held) (places : List ℕ)
     → AtMost (172 + (30 + (21 * held .ring .count + 13)) + 222) (terminalText held places)
@@ -210,36 +179,7 @@ of-state run places = go (run .seen .setup) where
   go true = weaker (of-terminal (run .held) places) (omega arith)
   go false = record { bound = omega arith }
 
--- ---- the cells
-
-of-cell : (address word : ℕ) → AtMost 10 (cellText address word)
-of-cell address word = go (eqb word 0) where
-  go : (none : Bool) → AtMost 10
-      (cond none []
-      (hexWord address ++ (blank ∷ []) ++ hexWord word ++ (newline ∷ [])))
-  go true = record { bound = omega arith }
-  go false =
-      both (both (both (of-word address) (record { bound = le-refl 1 })) (of-word word))
-      (record { bound = le-refl 1 })
-
-of-cells : (address : ℕ) (ram : List ℕ) → AtMost (10 * length ram) (cellLines address ram)
-unfolding cellLines
-of-cells address [] = record { bound = omega arith }
-of-cells address (word ∷ words) =
-    weaker (both (of-cell address word) (of-cells (address + 1) words)) (omega arith)
-
 -- ---- the program's buffer
-
--- a text that has room is put whole
-pub put-whole : (out text after : List ℕ) (next : ℕ) → Fits out 0 text after next
-    → length text ≤ length out → take next after ≡ text
-unfolding fitted
-put-whole out text after next fits enough =
-    ap (λ (left : Put). take (left .next) (left .bytes))
-    (fits .is-fitted
-    ∙ ap (λ (all : List ℕ). stored out 0 all) (take-all (length out - 0) text (omega arith))
-    ∙ sym (in-room (length text) out 0 text (omega arith)))
-    ∙ take-written (length text) out 0 text (omega arith) (omega arith) (le-refl (length text))
 
 -- the state, then the cells, are all of what the program prints behind a run's lines; no more than
 -- 256 blocks wait, since a run leaves a fit terminal

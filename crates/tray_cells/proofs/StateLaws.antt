@@ -8,7 +8,6 @@ use native.Mathlib.Nat.{add-zero}
 use native.Mathlib.Omega.{arith}
 use lib.ListN.{getD}
 use borrow.Author.Tests.{ne-eqb}
-use Rattle.bits.specs.Bit.{weightOf}
 use Rattle.queue.specs.declared.Ring.{Ring}
 use Rattle.queue.specs.Queue.{queuePlaces}
 use Rattle.message.specs.declared.state.Stage.{Stage}
@@ -29,12 +28,9 @@ use Rattle.lines.specs.Digits.{hexByte, hexWord, decimal}
 use Rattle.lines.specs.Lines.{blank, newline}
 use Rattle.lines.specs.Written.{Put, put}
 use Rattle.tray.specs.declared.run.Tray.{Tray as HeldTray}
-use Rattle.tray_cells.specs.Text.{bytes, fitted, Fits}
+use Rattle.shown.specs.Text.{bytes, fitted, Fits}
+use Rattle.shown.specs.Item.{part, line, markText}
 use Rattle.tray_cells.specs.State.{
-  item,
-  part,
-  line,
-  markText,
   timeText,
   lineName,
   secondText,
@@ -54,16 +50,11 @@ use Rattle.tray_cells.specs.State.{
   terminalText,
   stateText,
 }
-use Rattle.tray_cells.proofs.TextLaws.{fitted-then, fits-then, fitted-nothing}
+use Rattle.shown.proofs.TextLaws.{fitted-then, fits-then, fitted-nothing}
 
 -- ---- one part
 
 module _ {out : List ℕ} {at : ℕ} {after : List ℕ} {next : ℕ} where
-  pub mark-fits : (name : List ℕ) (mark : Bool) (number last : ℕ) → number ≡ weightOf mark 1
-      → Fits out at (item name (decimal number) last) after next
-      → Fits out at (item name (markText mark) last) after next
-  mark-fits name mark number last is fits = rw (← is) fits
-
   pub line-a : (on : Bool) → on ≡ false → Fits out at (bytes "line A ") after next
       → Fits out at (part "line " (lineName on)) after next
   line-a on is fits = rw is fits

@@ -1,4 +1,3 @@
--- What a run leaves, as text. Read `State` and `Cells` first.
-pub mod Text
+-- What a run leaves, as text.
+--     State    the lines of the terminal's state
 pub mod State
-pub mod Cells

@@ -3,10 +3,8 @@
 use mathlib.Core.Bool.{Bool, cond}
 use mathlib.Core.List.{List, [], _∷_, _++_}
 use Prim.Native.Nat.{ℕ, zero, suc, _+_, _/_, _%_}
-use Prim.Native.String.{String}
 use lib.Dec.{eqb}
 use lib.ListN.{getD}
-use Rattle.bits.specs.Bit.{weightOf}
 use Rattle.queue.specs.declared.Ring.{Ring}
 use Rattle.queue.specs.Queue.{queuePlaces}
 use Rattle.message.specs.declared.state.Stage.{Stage}
@@ -26,29 +24,8 @@ use Rattle.terminal.specs.declared.state.Held.{Held}
 use Rattle.lines.specs.Digits.{hexByte, hexWord, decimal}
 use Rattle.lines.specs.Lines.{blank, newline}
 use Rattle.tray.specs.declared.run.Tray.{Tray as HeldTray}
-use Rattle.tray_cells.specs.Text.{bytes}
-
--- ---- items
-
--- a name, a value, and the byte behind it
-abbrev pub item : List ℕ → List ℕ → ℕ → List ℕ
-item name value last = name ++ value ++ (last ∷ [])
-
--- an item that ends its line
-abbrev pub line : String → List ℕ → List ℕ
-line name value = item (bytes name) value newline
-
--- an item that others follow on its line
-abbrev pub part : String → List ℕ → List ℕ
-part name value = item (bytes name) value blank
-
--- a mark is 0 or 1
-abbrev pub markText : Bool → List ℕ
-markText on = decimal (weightOf on 1)
-
--- a time has 32 bits
-abbrev pub timeText : ℕ → List ℕ
-timeText time = hexWord (time / 65536 % 65536) ++ hexWord (time % 65536)
+use Rattle.shown.specs.Text.{bytes}
+use Rattle.shown.specs.Item.{item, part, line, markText}
 
 -- ---- the open message
 
@@ -60,6 +37,10 @@ lineName line = cond line (bytes "B") (bytes "A")
 abbrev pub secondText : Second → List ℕ
 secondText Absent = bytes "none"
 secondText (Command command) = hexWord command
+
+-- a time has 32 bits
+abbrev pub timeText : ℕ → List ℕ
+timeText time = hexWord (time / 65536 % 65536) ++ hexWord (time % 65536)
 
 -- what the message waits for
 abbrev pub stageText : Stage → List ℕ

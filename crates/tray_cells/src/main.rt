@@ -1,12 +1,11 @@
 // The program of a tray run that shows what the run left: the recording on standard input; on
 // standard output its lines, then the terminal's state, an item a line, then every nonzero cell of
 // the card, rising.
-mod cells;
 mod state;
-mod text;
 
 use io;
 use libc::STDOUT_FILENO;
+use shown::cells;
 use tray::Tray;
 use tray_stream;
 

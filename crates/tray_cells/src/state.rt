@@ -3,15 +3,12 @@
 ghost use mathlib.Core.Path.{_≡_};
 ghost use mathlib.Core.List.{_∷_};
 ghost use Prim.Native.Nat.{_%_};
-ghost use Rattle.lines.specs.Digits.{hexByte, hexWord, decimal};
+ghost use Rattle.lines.specs.Digits.{hexByte, decimal};
 ghost use Rattle.lines.specs.Lines.{blank};
 ghost use Rattle.lines.specs.Written.{put};
-ghost use Rattle.tray_cells.specs.Text.{fitted, Fits};
+ghost use Rattle.shown.specs.Text.{fitted, Fits};
+ghost use Rattle.shown.specs.Item.{part, line};
 ghost use Rattle.tray_cells.specs.State.{
-  item,
-  part,
-  line,
-  markText,
   timeText,
   lineName,
   secondText,
@@ -31,44 +28,16 @@ ghost use Rattle.tray_cells.specs.State.{
   terminalText,
   stateText,
 };
-use crate::text;
-use bits;
 use message::state::Message;
 use message::state::OpenMessage;
 use message::state::Second;
 use message::state::Stage;
 use queue::Ring;
+use shown::item;
+use shown::text;
 use terminal::state::Core;
 use terminal::state::Held;
 use tray::Tray;
-
-// ---- items: a name, a value, and what stands behind it
-
-fn put_number(out: &mut [u8], at: usize, name: &[u8], number: u16, last: u8) -> usize
-    ensures { λ next. ⌜ Fits (now (out .entry)) at (item (now (name .entry)) (decimal number) last)
-        (now (out .exit)) next ⌝ }
-{
-    let first = text::put_text(out, at, name);
-    let second = text::put_decimal(out, first, number);
-    text::put_byte(out, second, last)
-}
-
-fn put_word(out: &mut [u8], at: usize, name: &[u8], word: u16, last: u8) -> usize
-    ensures { λ next. ⌜ Fits (now (out .entry)) at (item (now (name .entry)) (hexWord word) last)
-        (now (out .exit)) next ⌝ }
-{
-    let first = text::put_text(out, at, name);
-    let second = text::put_hex_word(out, first, word);
-    text::put_byte(out, second, last)
-}
-
-// A mark is 0 or 1.
-fn put_mark(out: &mut [u8], at: usize, name: &[u8], mark: bool, last: u8) -> usize
-    ensures { λ next. ⌜ Fits (now (out .entry)) at (item (now (name .entry)) (markText mark) last)
-        (now (out .exit)) next ⌝ }
-{
-    put_number(out, at, name, bits::weigh(mark, 1), last)
-}
 
 // ---- the open message
 
@@ -99,7 +68,7 @@ fn put_second(out: &mut [u8], at: usize, second: Second) -> usize
 {
     match second {
         Second::Absent => text::put_text(out, at, b"second none "),
-        Second::Command(command) => put_word(out, at, b"second ", command, b' '),
+        Second::Command(command) => item::put_word(out, at, b"second ", command, b' '),
     }
 }
 
@@ -120,9 +89,9 @@ fn put_opening(out: &mut [u8], at: usize, message: OpenMessage) -> usize
     ensures { λ next. ⌜ Fits (now (out .entry)) at (openingText message)
         (now (out .exit)) next ⌝ }
 {
-    let first = put_word(out, at, b"open ", message.command, b' ');
+    let first = item::put_word(out, at, b"open ", message.command, b' ');
     let second = put_line(out, first, message.line);
-    put_number(out, second, b"block ", message.block.0, b' ')
+    item::put_number(out, second, b"block ", message.block.0, b' ')
 }
 
 // The table block, and what was fixed with it.
@@ -130,10 +99,10 @@ fn put_fixed(out: &mut [u8], at: usize, message: OpenMessage) -> usize
     ensures { λ next. ⌜ Fits (now (out .entry)) at (fixedText message)
         (now (out .exit)) next ⌝ }
 {
-    let first = put_number(out, at, b"table ", message.table.0, b' ');
-    let second = put_mark(out, first, b"moved ", message.moved, b' ');
-    let third = put_mark(out, second, b"busy ", message.busy, b' ');
-    put_mark(out, third, b"queued ", message.queued, b' ')
+    let first = item::put_number(out, at, b"table ", message.table.0, b' ');
+    let second = item::put_mark(out, first, b"moved ", message.moved, b' ');
+    let third = item::put_mark(out, second, b"busy ", message.busy, b' ');
+    item::put_mark(out, third, b"queued ", message.queued, b' ')
 }
 
 // How far the message has come.
@@ -144,7 +113,7 @@ fn put_progress(out: &mut [u8], at: usize, message: OpenMessage) -> usize
     let command = message.second;
     let stage = message.stage;
     let first = put_opened(out, at, message.opened);
-    let second = put_number(out, first, b"taken ", message.taken, b' ');
+    let second = item::put_number(out, first, b"taken ", message.taken, b' ');
     let third = put_second(out, second, command);
     put_stage(out, third, stage)
 }
@@ -204,7 +173,7 @@ fn put_queue(out: &mut [u8], at: usize, ring: Ring, places: &[u16; 256]) -> usiz
     ensures { λ next. ⌜ Fits (now (out .entry)) at (queueText (now (places .entry)) ring)
         (now (out .exit)) next ⌝ }
 {
-    let next = put_mark(out, at, b"overflow ", ring.overflow, b'\n');
+    let next = item::put_mark(out, at, b"overflow ", ring.overflow, b'\n');
     put_waiting(out, next, ring, places)
 }
 
@@ -224,8 +193,8 @@ fn put_words(out: &mut [u8], at: usize, core: Core) -> usize
     ensures { λ next. ⌜ Fits (now (out .entry)) at (wordsText core)
         (now (out .exit)) next ⌝ }
 {
-    let first = put_number(out, at, b"station ", core.station, b'\n');
-    let second = put_number(out, first, b"table ", core.table.0, b'\n');
+    let first = item::put_number(out, at, b"station ", core.station, b'\n');
+    let second = item::put_number(out, first, b"table ", core.table.0, b'\n');
     put_flags(out, second, core.flags)
 }
 
@@ -234,8 +203,8 @@ fn put_remembered(out: &mut [u8], at: usize, core: Core) -> usize
     ensures { λ next. ⌜ Fits (now (out .entry)) at (rememberedText core)
         (now (out .exit)) next ⌝ }
 {
-    let next = put_word(out, at, b"status ", core.status, b'\n');
-    put_word(out, next, b"last ", core.last, b'\n')
+    let next = item::put_word(out, at, b"status ", core.status, b'\n');
+    item::put_word(out, next, b"last ", core.last, b'\n')
 }
 
 // What mode commands have switched.
@@ -244,9 +213,9 @@ fn put_switches(out: &mut [u8], at: usize, core: Core) -> usize
         (now (out .exit)) next ⌝ }
 {
     let shut = core.shut;
-    let first = put_mark(out, at, b"shut A ", shut.a, b'\n');
-    let second = put_mark(out, first, b"shut B ", shut.b, b'\n');
-    put_mark(out, second, b"inhibit ", core.inhibit, b'\n')
+    let first = item::put_mark(out, at, b"shut A ", shut.a, b'\n');
+    let second = item::put_mark(out, first, b"shut B ", shut.b, b'\n');
+    item::put_mark(out, second, b"inhibit ", core.inhibit, b'\n')
 }
 
 fn put_core(out: &mut [u8], at: usize, core: Core) -> usize

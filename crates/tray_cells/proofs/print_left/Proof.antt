@@ -4,7 +4,7 @@ use mathlib.Core.Path.{sym}
 use Prim.Native.Nat.{ℕ}
 use lib.ListN.{length-replicate}
 use borrow.Author.Needs.{needs}
-use Rattle.tray_cells.proofs.TextLaws.{end-inside}
+use Rattle.shown.proofs.TextLaws.{end-inside}
 use Rattle.tray_cells.proofs.print_left.Statement.{statement}
 use Rattle.tray_cells.proofs.print_left.Tie as tie
 

@@ -4,7 +4,7 @@ use mathlib.Core.Path.{_≡_}
 use Prim.Native.Nat.{_-_, _≤_}
 use lib.ListN.{length}
 use borrow.Author.Needs.{needs}
-use Rattle.tray_cells.specs.Text.{fitted}
+use Rattle.shown.specs.Text.{fitted}
 use Rattle.tray_cells.specs.State.{blocksFrom, eachBlock}
 use Rattle.tray_cells.proofs.StateLaws.{BlocksLeft, blocks-all, blocks-less, blocks-none}
 use Rattle.tray_cells.proofs.state.put_blocks.Statement.{statement}
