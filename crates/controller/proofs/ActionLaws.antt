@@ -1,6 +1,5 @@
 -- The laws of `specs/Actions.antt`, as the code comes to each answer. Assumes nothing.
 use mathlib.Core.Path.{_≡_}
-use mathlib.Core.List.{List}
 use Prim.Native.Nat.{ℕ, _≤_, _<_}
 use lib.Dec.{eqb}
 use lib.ListN.{length}

@@ -3,15 +3,13 @@
 -- nothing. Assumes nothing.
 use mathlib.Core.Path.{_≡_, refl, sym, _∙_, ap}
 use mathlib.Core.Bool.{Bool, not, Bool·beq}
-use mathlib.Core.List.{List}
-use Prim.Native.Nat.{ℕ, _≤_, _<_}
+use Prim.Native.Nat.{_<_}
 use native.Mathlib.Omega.{arith}
-use lib.ListN.{length, getD}
 use Rattle.rules.proofs.Choices.{by-test}
 use Rattle.bus.specs.declared.word.Word.{Word}
 use Rattle.card.specs.declared.place.Block.{Block}
 use Rattle.card.specs.declared.place.Cell.{Cell}
-use Rattle.card.specs.Memory.{blockCells, theCell, wordAddress, cellAt, withCell}
+use Rattle.card.specs.Memory.{blockCells, theCell, wordAddress, cellAt}
 use Rattle.card.proofs.MemoryLaws.{length-with-cell}
 use Rattle.card.proofs.Frame.{cell-keeps}
 use Rattle.formats.specs.declared.code.Coded.{Coded}
@@ -46,7 +44,7 @@ use Rattle.controller.specs.Heard.{
   silenceMet,
   silenceStep,
 }
-use Rattle.controller.specs.Written.{ComesBack, WritesOnlyBack}
+use Rattle.controller.specs.Written.{WritesOnlyBack}
 
 -- ---- a word
 

@@ -1,6 +1,5 @@
 -- Start: rule 2 of K10. Definitions only. Assumes nothing.
 use mathlib.Core.Bool.{Bool, false, cond, _&&_}
-use mathlib.Core.List.{List}
 use Prim.Native.Nat.{ℕ, _-_}
 use lib.Dec.{leb}
 use Rattle.card.specs.Memory.{theCell, cellAt}

@@ -14,7 +14,7 @@ use Rattle.controller.specs.declared.state.Result.{Result}
 use Rattle.controller.specs.declared.state.Result.the-variants.{Absent}
 use Rattle.controller.specs.declared.state.Controller.{Controller}
 use Rattle.controller.specs.declared.start.Given.{Given}
-use Rattle.controller.specs.State.{Desk, desk, atSetup}
+use Rattle.controller.specs.State.{desk, atSetup}
 use Rattle.controller.specs.Start.{startedAs, startStep}
 use Rattle.controller.specs.Heard.{heardAs, wordStep, silenceStep}
 use Rattle.desk.specs.declared.field.Field.{Field}

@@ -3,18 +3,17 @@
 use mathlib.Core.Path.{_≡_, refl, sym, subst, _∙_}
 use mathlib.Core.Bool.{Bool, true, false, true≢false, not}
 use mathlib.Core.List.{List}
-use Prim.Native.Nat.{ℕ, _+_, _*_, _≤_, _<_}
+use Prim.Native.Nat.{ℕ, _+_, _≤_, _<_}
 use native.Mathlib.Omega.{arith}
 use lib.Dec.{eqb}
 use lib.ListN.{length}
 use borrow.Author.Tests.{eqb-true}
 use Rattle.rules.proofs.Choices.{by-test}
 use Rattle.recording.specs.declared.field.Field.{Field as SharedField}
-use Rattle.recording.specs.declared.field.Field.the-variants.{HostWrite}
 use Rattle.recording.specs.declared.seen.Seen.{Seen}
 use Rattle.recording.specs.declared.reading.Reading.{Reading as SharedReading}
 use Rattle.recording.specs.declared.reading.Reading.the-variants as shared
-use Rattle.recording.specs.Bytes.{bytesLeft, byteAt, wordAt}
+use Rattle.recording.specs.Bytes.{bytesLeft, byteAt}
 use Rattle.recording.specs.Reading as recording
 use Rattle.recording.proofs.TakenLaws.{taken-within}
 use Rattle.recording.proofs.InOrder.{taken-in-order}

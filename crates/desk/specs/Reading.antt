@@ -5,7 +5,6 @@ use mathlib.Core.Bool.{Bool, cond, not, _||_}
 use mathlib.Core.List.{List}
 use Prim.Native.Nat.{ℕ, _+_}
 use lib.Dec.{eqb, ltb}
-use Rattle.recording.specs.declared.field.Field.{Field as SharedField}
 use Rattle.recording.specs.declared.seen.Seen.{Seen}
 use Rattle.recording.specs.declared.reading.Reading.{Reading as SharedReading}
 use Rattle.recording.specs.declared.reading.Reading.the-variants as shared

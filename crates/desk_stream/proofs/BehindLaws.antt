@@ -3,14 +3,13 @@
 use mathlib.Core.Path.{_≡_, refl, sym, ap, _∙_}
 use mathlib.Core.Bool.{Bool, true, false, true≢false, not}
 use mathlib.Core.List.{List, _++_}
-use Prim.Native.Nat.{ℕ, _+_, _≤_, _<_}
+use Prim.Native.Nat.{ℕ, _+_, _≤_}
 use native.Mathlib.Decide.{ℕ-discrete}
 use native.Mathlib.Omega.{arith}
 use lib.Dec.{eqb, ltb}
 use lib.ListN.{length, length-append}
-use borrow.Author.Tests.{eq-eqb, ne-eqb, eqb-true, eqb-false, ltb-false, le-ltb}
+use borrow.Author.Tests.{ne-eqb, eqb-true, eqb-false, ltb-false, le-ltb}
 use Rattle.rules.proofs.Stays.{Stays, same, open-way, same-way, either-way}
-use Rattle.recording.specs.declared.field.Field.{Field as SharedField}
 use Rattle.recording.specs.declared.reading.Reading.{Reading as SharedReading}
 use Rattle.recording.specs.declared.reading.Reading.the-variants as shared
 use Rattle.recording.specs.declared.seen.Seen.{Seen}
@@ -19,7 +18,7 @@ use Rattle.recording.specs.Reading as recording
 use Rattle.recording.specs.AsCoded.Pieces as recorded
 use Rattle.recording.proofs.MoreBytes.{byte-of-more, word-of-more, settled-stays}
 use Rattle.desk.specs.declared.field.Field.{Field}
-use Rattle.desk.specs.declared.field.Field.the-variants.{Setup, Start, Shared}
+use Rattle.desk.specs.declared.field.Field.the-variants.{Start}
 use Rattle.desk.specs.declared.reading.Reading.{Reading}
 use Rattle.desk.specs.declared.reading.Reading.the-variants.{Taken, End, Refused}
 use Rattle.desk.specs.Reading.{

@@ -7,17 +7,15 @@ use Prim.Native.Nat.{ℕ, _+_, _-_, _≤_, _<_}
 use native.Mathlib.Omega.{arith}
 use lib.Dec.{eqb}
 use lib.ListN.{length}
-use borrow.Author.Tests.{ne-eqb}
 use Rattle.rules.proofs.Clash.{clash}
 use Rattle.recording.proofs.ValueLaws.{more-bytes-same-values}
 use Rattle.lines.specs.Written.{lineRoom}
 use Rattle.lines.proofs.Lengths.{length-given-line, length-result-line}
-use Rattle.pieces.specs.Course.{Met, taken, atEnd, refused, mayGoOn, waits}
+use Rattle.pieces.specs.Course.{taken, atEnd, refused, mayGoOn, waits}
 use Rattle.pieces.specs.Steady.{Steady}
-use Rattle.pieces.proofs.CourseLaws.{same-next, same-line, same-new, same-number}
+use Rattle.pieces.proofs.CourseLaws.{same-next, same-line}
 use Rattle.controller.specs.declared.state.Result.the-variants.{Absent, Came}
 use Rattle.controller.specs.declared.start.Given.the-variants.{Nothing, Words}
-use Rattle.controller.specs.State.{Desk}
 use Rattle.controller.specs.Given.{givenPart}
 use Rattle.desk.specs.declared.field.Field.{Field}
 use Rattle.desk.specs.declared.field.Field.the-variants.{Setup, Start, Shared}

@@ -8,7 +8,7 @@ use borrow.Author.Tests.{eq-eqb, ne-eqb, lt-ltb, le-ltb, leb-false}
 use Rattle.bus.specs.declared.word.Word.{Word}
 use Rattle.bus.specs.Command.{addressOf}
 use Rattle.formats.specs.declared.row.Format.{Format}
-use Rattle.formats.specs.Row.{statusCell, replyCell, lastCell}
+use Rattle.formats.specs.Row.{lastCell}
 use Rattle.exchange.specs.declared.order.Order.{Order}
 use Rattle.exchange.specs.declared.state.Stage.{Stage}
 use Rattle.exchange.specs.declared.state.Stage.the-variants.{
@@ -24,7 +24,7 @@ use Rattle.exchange.specs.declared.judge.WordAct.the-variants as heard
 use Rattle.exchange.specs.declared.judge.SilenceAct.{SilenceAct}
 use Rattle.exchange.specs.declared.judge.SilenceAct.the-variants.{GoOn, End}
 use Rattle.exchange.specs.declared.judge.SilenceAct.the-variants as silent
-use Rattle.exchange.specs.Order.{askingIn, formatFor, awaited, awaitedLast}
+use Rattle.exchange.specs.Order.{askingIn, formatFor}
 use Rattle.exchange.specs.Judge.{
   exchangeOf,
   isMarked,

@@ -1,7 +1,7 @@
 -- The laws of `specs/Code.antt`: what an arm of the code's own table tells, and what the last one
 -- does. Assumes nothing.
 use mathlib.Core.Path.{_≡_, sym}
-use Prim.Native.Nat.{ℕ, _≤_}
+use Prim.Native.Nat.{ℕ}
 use native.Mathlib.Omega.{arith}
 use lib.ListN.{List·getD-eq-default}
 use Rattle.rules.proofs.LastArm.{NoneBelow, none-below}

@@ -6,7 +6,6 @@ use Rattle.formats.specs.declared.row.Row.the-variants.{
   ToTerminal,
   FromTerminal,
   Between,
-  ModeAlone,
   ModeWithWord,
   ModeForWord,
 }

@@ -2,11 +2,8 @@
 -- field. Assumes nothing.
 use mathlib.Core.Path.{_≡_}
 use mathlib.Core.List.{List}
-use Prim.Native.Nat.{ℕ, _-_}
-use native.Mathlib.Omega.{arith}
+use Prim.Native.Nat.{ℕ}
 use lib.Dec.{eqb}
-use lib.ListN.{length, take, drop}
-use lib.Seq.{sets}
 use Rattle.bus.specs.declared.word.Word.{Word}
 use Rattle.bus.specs.Word.{wordOf}
 use Rattle.card.specs.Memory.{theBlock}

@@ -2,7 +2,7 @@
 -- of another terminal, and a broadcast is dropped for an own one. Assumes nothing.
 use mathlib.Core.Path.{_≡_, refl, ap, _∙_}
 use mathlib.Core.Logic.{_≢_}
-use mathlib.Core.Bool.{Bool, true, false, _&&_}
+use mathlib.Core.Bool.{Bool, true, false, _&&_, and-false}
 use Prim.Native.Nat.{ℕ, _<_}
 use native.Mathlib.Omega.{arith}
 use borrow.Author.Tests.{eq-eqb, ne-eqb, lt-leb}
@@ -30,11 +30,6 @@ use Rattle.rack.specs.Asked.{FitTransfer}
 use Rattle.rack.proofs.Terminal.Opened.{messageOf, openedCard, opened-in-data}
 use Rattle.rack.proofs.Terminal.Kinds.{words-some}
 use Rattle.rack.proofs.Terminal.Columns.{transfer-columns}
-
--- a test that fails, behind one that may hold
-and-false : (test : Bool) → (test && false) ≡ false
-and-false true = refl
-and-false false = refl
 
 -- a data receive at its first word: it may be a second command
 pub record AtItsSecond (message : OpenMessage) (old : Card) : Type 0 where

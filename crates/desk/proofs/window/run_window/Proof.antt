@@ -2,7 +2,7 @@
 use borrow.Author.Needs.{needs}
 use Rattle.pieces.specs.AsCoded.Window.{windowRun}
 use Rattle.desk.specs.AsCoded.Held.{passedOf}
-use Rattle.desk.proofs.LoopLaws.{Leads, leads-on, leading}
+use Rattle.desk.proofs.LoopLaws.{Leads, leading}
 use Rattle.desk.proofs.window.run_window.Statement.{statement}
 use Rattle.desk.proofs.window.run_window.Tie as tie
 
