@@ -4,7 +4,6 @@ use denote.Ref.{now}
 use Rattle.rules.proofs.Determined.{Determined, DeterminedAs, same}
 use Rattle.terminal.specs.State.{Card, cardOf}
 use Rattle.terminal.specs.Event.{replied, Shown, shown}
-use Rattle.terminal.specs.AsCoded.Row.{Storing, storing}
 use Rattle.terminal.proofs.state.Core.at_setup.Kinds as core-setup-kinds
 use Rattle.terminal.proofs.state.Core.at_setup.Reads as core-setup-reads
 use Rattle.terminal.proofs.state.Core.move_table.Kinds as core-table-kinds
@@ -19,10 +18,6 @@ use Rattle.terminal.proofs.state.Core.close_by_fault.Kinds as close-by-
 use Rattle.terminal.proofs.state.Core.close_by_fault.Reads as close-by-fault-reads
 use Rattle.terminal.proofs.state.Core.close_at_end.Kinds as close-at-end-kinds
 use Rattle.terminal.proofs.state.Core.close_at_end.Reads as close-at-end-reads
-use Rattle.terminal.proofs.row.Row.of.Kinds as row-of-kinds
-use Rattle.terminal.proofs.row.Row.of.Reads as row-of-reads
-use Rattle.terminal.proofs.row.Row.store.Kinds as row-store-kinds
-use Rattle.terminal.proofs.row.Row.store.Reads as row-store-reads
 use Rattle.terminal.proofs.state.Core.after_row.Kinds as after-row-kinds
 use Rattle.terminal.proofs.state.Core.after_row.Reads as after-row-reads
 use Rattle.terminal.proofs.state.Core.word.Kinds as core-word-kinds
@@ -54,14 +49,6 @@ pub close-at-end :
     DeterminedAs 2 close-at-end-kinds.ps close-at-end-kinds.r close-at-end-reads.Post Card
     (λ κs result exit. cardOf result (now (exit .1 .1 .0)) (now (exit .1 .1 .1 .0)))
 close-at-end κs arguments result result′ exit exit′ = same
-
-pub row-of : Determined 0 row-of-kinds.ps row-of-kinds.r row-of-reads.Post
-row-of κs arguments result result′ exit exit′ = same
-
-pub row-store :
-    DeterminedAs 1 row-store-kinds.ps row-store-kinds.r row-store-reads.Post Storing
-    (λ κs result exit. storing result (now (exit .1 .0)))
-row-store κs arguments result result′ exit exit′ = same
 
 pub after-row : Determined 0 after-row-kinds.ps after-row-kinds.r after-row-reads.Post
 after-row κs arguments result result′ exit exit′ = same

@@ -3,7 +3,6 @@
 --     OpeningLaws   how the code puts an opening together
 --     ClosingLaws   how the code puts a closing together
 --     StepLaws      how the code does what was decided
---     RowLaws       how the code stores a row of data words
 --     RowWords      a data word that is wanted is stored; a row of them is as many words
 --     SilentLaws    a word brings no reply
 --     Determined    each public contract allows one outcome alone
@@ -11,7 +10,6 @@ pub mod CoreLaws
 pub mod OpeningLaws
 pub mod ClosingLaws
 pub mod StepLaws
-pub mod RowLaws
 pub mod RowWords
 pub mod SilentLaws
 pub mod Determined

@@ -1,13 +1,14 @@
 -- Data words that the open message wants: one is stored (`word-is-stored`), and a row of them,
 -- stored at once, is as many words heard one after the other (`row-is-words`). Assumes nothing.
 use mathlib.Core.Path.{_≡_, refl, ap, _∙_}
-use mathlib.Core.Bool.{Bool, true, false, Bool·beq}
 use mathlib.Core.List.{List, [], _∷_, map}
 use Prim.Native.Nat.{ℕ, suc, _+_, _≤_, _<_}
 use native.Mathlib.Omega.{arith}
 use lib.ListN.{length}
 use borrow.Author.Tests.{lt-leb}
+use Rattle.rules.proofs.Cases.{beq-same}
 use Rattle.bus.specs.declared.word.Word.{Word}
+use Rattle.bus.specs.DataWords.{DataWord, DataWords, no-words, a-word, valuesOf}
 use Rattle.card.specs.Memory.{withCells}
 use Rattle.message.specs.declared.state.Stage.{Stage}
 use Rattle.message.specs.declared.state.Stage.the-variants.{Data}
@@ -21,22 +22,9 @@ use Rattle.message.specs.Wants.{wants}
 use Rattle.message.proofs.WantsLaws.{wanting-more, wants-further}
 use Rattle.terminal.specs.State.{Card, card, withMessage}
 use Rattle.terminal.specs.Event.{word, Outcome, quietly}
-use Rattle.terminal.specs.Row.{
-  withTaken,
-  wordStored,
-  valuesOf,
-  rowStored,
-  DataWord,
-  DataWords,
-  no-words,
-  a-word,
-}
+use Rattle.terminal.specs.Row.{withTaken, wordStored, rowStored}
 use Rattle.terminal.specs.WordStep.{wordDone, wordStep}
 use Rattle.terminal.specs.Machine.{step, run}
-
-beq-same : (line : Bool) → Bool·beq line line ≡ true
-beq-same true = refl
-beq-same false = refl
 
 module _ (message : OpenMessage) (old : Card) (is-open : old .core .message ≡ Open message) where
   -- a data word that is wanted is stored

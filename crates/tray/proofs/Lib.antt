@@ -2,16 +2,12 @@
 --     HappenLaws    what a field tells comes about: a law for each kind of field
 --     LineLaws      the line of an answer
 --     TurnLaws      one field of a window, as the code takes it
---     RowLaws       a row of data words, as the code takes it
---     WordTurns     the data words that are found are as many turns
 --     RowTurns      a row of data words, taken at once, is as many turns
 --     LoopLaws      field after field
 --     Determined    each public contract allows one outcome alone
 pub mod HappenLaws
 pub mod LineLaws
 pub mod TurnLaws
-pub mod RowLaws
-pub mod WordTurns
 pub mod RowTurns
 pub mod LoopLaws
 pub mod Determined

@@ -10,6 +10,7 @@ use Rattle.pieces.specs.declared.stop.Stop.the-variants.{Going}
 use Rattle.pieces.specs.AsCoded.Window.{isGoing}
 use Rattle.pieces.proofs.StopLaws.{going-is}
 use Rattle.pieces.proofs.LeadLaws as general
+use Rattle.rows.proofs.LoopLaws.{leads-behind}
 use Rattle.tray.specs.declared.window.Passed.{Passed as HeldPassed}
 use Rattle.tray.specs.Run.{trayCourse}
 use Rattle.tray.specs.AsCoded.Window.{Passed, turn, turns}
@@ -59,15 +60,14 @@ module _ (window : List ℕ) (last : Bool) (start : Passed) (most : ℕ) where
         going-is (old .stop) (sym is-going ∙ not-false going goes) in
         let behind : general.Leads trayCourse window last start most
         (passedOf next places ram′ out) left′ =
-        record {
-          leads = row .leads last places out is-room is ∙ so-far .leads .leads;
-          out-as-long = so-far .leads .out-as-long;
-        } in
+        leads-behind trayCourse window last start most room (passedOf old places ram out)
+        (passedOf next places ram′ out) left left′ (so-far .leads) is is-room
+        (row .turns-taken places) (row .same-stop) (row .same-put) refl in
         record {
           leads =
               general.leads-on trayCourse window last start most (passedOf next places ram′ out)
-              left′ behind going new (row .some-left some)
-              (is-going ∙ ap isGoing (sym (row .going))) goes is-new out-long;
+              left′ behind going new (row .turns-taken places .some-left some)
+              (is-going ∙ ap isGoing (sym (row .same-stop))) goes is-new out-long;
           ram-as-long = ram-long ∙ row-long ∙ so-far .ram-as-long;
         }
 

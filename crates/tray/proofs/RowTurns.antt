@@ -1,175 +1,176 @@
--- What `take_row` leaves: the turns that are left lead where all of them led (`row-taken`). The
--- words that are found are as many turns, and the terminal stores them as a row. Assumes nothing.
-use mathlib.Core.Path.{_≡_, refl, sym, ap, _∙_}
-use mathlib.Core.Bool.{Bool, true, false, not, _&&_}
-use mathlib.Core.List.{List, map}
-use Prim.Native.Nat.{ℕ, _+_, _-_, _*_, _≤_, _<_, _^_}
+-- What `take_row` leaves: the turns that are left lead where all of them led (`row-taken`), by the
+-- law of every row: a data word is a field that prints nothing, and the terminal stores a row as so
+-- many words. Assumes nothing.
+use mathlib.Core.Path.{_≡_, refl, sym, ap, subst, _∙_}
+use mathlib.Core.Logic.{_≢_}
+use mathlib.Core.Bool.{Bool, true}
+use mathlib.Core.List.{List, [], _∷_, map}
+use Prim.Native.Nat.{ℕ, _+_, _-_, _*_, _≤_, _<_, _%_, _^_}
 use native.Mathlib.Omega.{arith}
-use lib.Dec.{leb, ltb}
-use lib.ListN.{length}
-use borrow.Author.Tests.{leb-true, ltb-true, not-false}
-use Rattle.rules.proofs.Halves.{first-of-both, second-of-both}
 use Rattle.bus.specs.declared.word.Word.{Word}
 use Rattle.message.specs.declared.state.OpenMessage.{OpenMessage}
 use Rattle.message.specs.declared.state.Message.the-variants.{Open}
 use Rattle.message.specs.Wants.{wants}
-use Rattle.message.proofs.WantsLaws.{wants-at-most, wanting-more}
-use Rattle.terminal.specs.declared.row.Row.{Row}
+use Rattle.message.proofs.WantsLaws.{wanting-more}
+use Rattle.terminal.specs.declared.state.Core.{Core}
 use Rattle.terminal.specs.State.{Card, cardOf}
 use Rattle.terminal.specs.Event.{word}
-use Rattle.terminal.specs.Row.{rowStored}
-use Rattle.terminal.specs.AsCoded.Row.{rowOf}
-use Rattle.terminal.specs.Machine.{run}
+use Rattle.terminal.specs.Row.{withTaken, rowStored}
+use Rattle.terminal.specs.Machine.{step, run}
 use Rattle.terminal.proofs.RowWords.{row-is-words}
+use Rattle.terminal.proofs.SilentLaws.{words-are-silent}
 use Rattle.recording.specs.declared.seen.Seen.{Seen}
-use Rattle.lines.specs.Written.{lineRoom, mostWords}
-use Rattle.pieces.specs.declared.stop.Stop.the-variants.{Going}
+use Rattle.recording.specs.Value.{valuedAt}
+use Rattle.recording.proofs.FoundLaws.{found-is-read}
 use Rattle.pieces.specs.LastLine.{counted}
-use Rattle.tray.specs.declared.row.Reach.{Reach}
+use Rattle.rows.specs.declared.Row.{Row}
+use Rattle.rows.specs.declared.Taken.{Taken}
+use Rattle.rows.specs.Row.{marksOn, wordIn, wordsOf, RowLeft, rowLeft, rowTaken}
+use Rattle.rows.specs.Turns.{Hearing}
+use Rattle.rows.proofs.FoundLaws.{marks-few, found-next, found-are-data}
+use Rattle.rows.proofs.TakenLaws.{found-few}
+use Rattle.rows.proofs.TakenLaws as rows
+use Rattle.rows.proofs.RowTurns.{nothing-taken, row-is-turns}
 use Rattle.tray.specs.declared.window.Passed.{Passed as HeldPassed}
-use Rattle.tray.specs.AsCoded.Window.{turns}
-use Rattle.tray.specs.AsCoded.Held.{passedOf}
-use Rattle.tray.specs.AsCoded.Row.{
-  wordsFound,
-  Stored,
-  stored,
-  behindRow,
-  mayTakeRow,
-  passedAfter,
-  RowTaken,
-}
-use Rattle.tray.proofs.WordTurns.{found-are-data, found-at-most, words-are-turns, among}
+use Rattle.tray.specs.Happening.{happeningOf, happened}
+use Rattle.tray.specs.Run.{Tray, taking, takingLine, metBy, trayCourse}
+use Rattle.tray.specs.AsCoded.Held.{trayOf}
+use Rattle.tray.specs.AsCoded.Row.{rowTo, passedAfter, RowTaken}
 
--- what the test allows
-record Able (seen : Seen) (room most : ℕ) (row : Row) : Type 0 where
-  after-setup : seen .setup ≡ true
-  enough : lineRoom ≤ room
-  many : mostWords < most
-  more : row .taken < row .wanted
+-- ---- a tray's run hears words
 
-able-tells : (seen : Seen) (room most : ℕ) (row : Row) → mayTakeRow seen room most row ≡ true
-    → Able seen room most row
-able-tells seen room most row is =
-    let setup = seen .setup in
-    let enough = leb lineRoom room in
-    let many = ltb mostWords most in
-    let more = ltb (row .taken) (row .wanted) in
-    let to-many = first-of-both (setup && enough && many) more is in
-    let to-enough = first-of-both (setup && enough) many to-many in
+-- a run by its card and counts
+abbrev runOver : Seen → Card → ℕ → ℕ → Tray
+runOver seen old fields offset =
+    record { seen = seen; card = old; fields = fields; offset = offset }
+
+abbrev hears : List Word → Card → Card
+hears words old = run (map word words) old
+
+-- every word is a field that prints nothing, wanted or not
+abbrev Wants : Bool → ℕ → Card → Type 0
+Wants line more old = old ≡ old
+
+tray-hears : (seen : Seen) → seen .setup ≡ true → Hearing trayCourse (runOver seen) hears Wants
+unfolding run trayCourse metBy taking takingLine happened happeningOf valuedAt step
+tray-hears seen after-setup =
     record {
-      after-setup = first-of-both setup enough to-enough;
-      enough = leb-true lineRoom room (second-of-both setup enough to-enough);
-      many = ltb-true mostWords most (second-of-both (setup && enough) many to-many);
-      more = ltb-true (row .taken) (row .wanted) (second-of-both (setup && enough && many) more is);
+      none-heard = λ old. refl;
+      one-heard = λ heard more old. refl;
+      is-met = λ line more old fields offset window at value next wants is.
+          let ten : next - at ≡ 10 = omega (arith, found-next window line at value next is) in
+          rw (
+            found-is-read window at (marksOn line) (marks-few line) seen after-setup is,
+            words-are-silent (wordIn window line at value) old,
+            ten,
+          );
+      wants-on = λ line more old heard wants is-data. refl;
     }
 
-module _ (old : HeldPassed) (message : OpenMessage) (window ram ram′ : List ℕ) (room most : ℕ)
-    (row : Row) (end : Reach) (is-row : row ≡ rowOf message)
-    (able : not (mayTakeRow (old .tray .seen) room most row) ≡ false)
-    (is-end : stored end ram′
-    ≡ behindRow window (message .line) (stored (record { row = row; at = old .at }) ram)) where
-  tells : Able (old .tray .seen) room most (rowOf message)
-  tells =
-      able-tells (old .tray .seen) room most (rowOf message)
-      (rw is-row at (not-false (mayTakeRow (old .tray .seen) room most row) able))
+-- ---- the run behind a row, as the code makes it
 
-  abbrev fuel : ℕ
-  fuel = wants message - message .taken
+pub row-after : (old : HeldPassed) (message : OpenMessage) (taken : Taken) (core : Core)
+    (fields offset : ℕ)
+    → core ≡ withTaken (taken .cell) message (old .tray .held .core)
+    → fields ≡ (old .tray .fields + taken .words) % 2 ^ 64
+    → offset ≡ (old .tray .offset + 10 * taken .words) % 2 ^ 64
+    → record {
+      tray =
+          record {
+            held = record { core = core; ring = old .tray .held .ring };
+            seen = old .tray .seen;
+            fields = fields;
+            offset = offset;
+          };
+      at = taken .at;
+      put = old .put;
+      stop = old .stop;
+    }
+    ≡ passedAfter old message taken
+unfolding passedAfter
+row-after old message taken core fields offset is-core is-fields is-offset =
+    rw (is-core, is-fields, is-offset)
+
+-- ---- a row is as many turns
+
+module _ (old : HeldPassed) (message : OpenMessage) (window ram ram′ : List ℕ) (room most end : ℕ)
+    (taken : Taken) (is-open : old .tray .held .core .message ≡ Open message)
+    (is-end : end ≡ wants message)
+    (is-taken : rowLeft taken ram′
+    ≡ rowTaken window (old .at) (message .line) (old .tray .seen .setup) room most
+    (rowTo end message) ram) where
+  abbrev row : Row
+  row = rowTo end message
 
   abbrev found : List Word
-  found = wordsFound fuel window (message .line) (old .at)
+  found = wordsOf window (old .at) (message .line) row
 
-  is-stored : stored end ram′
-      ≡ behindRow window (message .line) (stored (record { row = rowOf message; at = old .at }) ram)
-  is-stored = rw is-row at is-end
+  -- where no word was found nothing has changed
+  pub none-taken : taken .words ≡ 0 → RowTaken window room most old ram most old ram′
+  none-taken none =
+      let same : ram′ ≡ ram =
+      rows.none-taken window (message .line) (old .tray .seen .setup) room most (old .at) row ram
+      taken ram′ is-taken none in
+      rw same record {
+        same-stop = refl;
+        same-put = refl;
+        turns-taken = λ places. nothing-taken;
+      }
 
-  same-row : row .taken ≡ message .taken
-  same-row = ap (λ (any : Row). any .taken) is-row
+  module _ (some : taken .words ≢ 0) where
+    tells : rows.SomeTaken window (message .line) (old .tray .seen .setup) room most (old .at) row
+        ram taken ram′
+    tells =
+        rows.some-taken window (message .line) (old .tray .seen .setup) room most (old .at) row ram
+        taken ram′ is-taken some
 
-  longer : end .row .taken ≡ message .taken + length found
-  longer = ap (λ (any : Stored). any .reach .row .taken) is-stored
+    -- the terminal has stored the words that are found
+    as-row : (places : List ℕ)
+        → cardOf (record {
+          core = withTaken (taken .cell) message (old .tray .held .core);
+          ring = old .tray .held .ring;
+        }) places ram′
+        ≡ hears found (cardOf (old .tray .held) places ram)
+    as-row places =
+        ap (λ (any : RowLeft). cardOf (record {
+          core = withTaken (any .taken .cell) message (old .tray .held .core);
+          ring = old .tray .held .ring;
+        }) places (any .ram)) (tells .is-row)
+        ∙ sym (row-is-words found message (cardOf (old .tray .held) places ram) is-open
+        (wanting-more message (message .taken) (rw is-end at (tells .able .more)) .in-data)
+        (omega (
+          arith,
+          found-few window (message .line) row (old .at),
+          tells .able .more,
+          is-end,
+        ))
+        (found-are-data window (message .line) (end - message .taken) (old .at)))
 
-  few : length found ≤ fuel
-  few = found-at-most window (message .line) fuel (old .at)
-
-  pub words-grow : row .taken ≤ end .row .taken
-  words-grow = omega (arith, longer, same-row)
-
-  pub words-fit : end .row .taken - row .taken ≤ most
-  words-fit = omega (arith, longer, same-row, few, wants-at-most message, tells .many)
-
-  module _ (left words : ℕ) (new : HeldPassed)
-      (is-open : old .tray .held .core .message ≡ Open message)
-      (is-words : words ≡ end .row .taken - row .taken)
-      (is-new : new ≡ passedAfter old message end words) (is-left : left ≡ most - words)
-      (small : old .tray .fields < 2 ^ 64) (near : old .tray .offset < 2 ^ 64) where
-    as-many : words ≡ length found
-    as-many = omega (arith, is-words, longer, same-row)
-
-    same-stop : passedAfter old message end words .stop ≡ old .stop
+    behind-row : RowTaken window room most old ram (taken .left) (passedAfter old message taken) ram′
     unfolding passedAfter
-    same-stop = refl
-
-    put-stays : passedAfter old message end words .put ≡ old .put
-    unfolding passedAfter
-    put-stays = refl
-
-    module _ (last : Bool) (places out : List ℕ) (is-room : room ≡ length out - old .put)
-        (is-going : old .stop ≡ Going) where
-      abbrev before : Card
-      before = cardOf (old .tray .held) places ram
-
-      as-row : run (map word found) before ≡ rowStored found message before
-      as-row =
-          row-is-words found message before is-open
-          (wanting-more message (message .taken) (tells .more) .in-data)
-          (omega (arith, few, tells .more))
-          (found-are-data window (message .line) fuel (old .at))
-
-      row-leads : turns left window last (passedOf new places ram′ out)
-          ≡ turns most window last (passedOf old places ram out)
-      unfolding passedAfter
-      row-leads =
-          let all : length found + left ≡ most =
-          omega (arith, is-left, as-many, few, wants-at-most message, tells .many) in
-          ap (λ (any : HeldPassed). turns left window last (passedOf any places ram′ out)) is-new
-          ∙ ap (λ (any : Stored). turns left window last
-          (passedOf (passedAfter old message (any .reach) words) places (any .ram) out)) is-stored
-          ∙ ap (λ (any : ℕ). turns left window last
-          (among window out last (message .line) (old .tray .seen) (old .put) (old .stop)
-          (tells .after-setup) is-going (rw is-room at (tells .enough))
-          (old .at + 10 * length found) (rowStored found message before)
-          (counted (old .tray .fields + any)) (counted (old .tray .offset + 10 * any)))) as-many
-          ∙ ap (λ (any : Card). turns left window last
-          (among window out last (message .line) (old .tray .seen) (old .put) (old .stop)
-          (tells .after-setup) is-going (rw is-room at (tells .enough))
-          (old .at + 10 * length found) any
-          (counted (old .tray .fields + length found))
-          (counted (old .tray .offset + 10 * length found)))) (sym as-row)
-          ∙ words-are-turns window out last (message .line) (old .tray .seen) (old .put) (old .stop)
-          (tells .after-setup) is-going (rw is-room at (tells .enough))
-          fuel left (old .at) before (old .tray .fields) (old .tray .offset) small near
-          ∙ ap (λ (any : ℕ). turns any window last (passedOf old places ram out)) all
-
-    pub row-taken : RowTaken window room most old ram left new ram′
-    row-taken =
+    behind-row =
         record {
-          fewer = omega (arith, is-left);
-          some-left =
-              λ _.
-              omega (arith, is-left, as-many, few, wants-at-most message, tells .many);
-          going = ap (λ (any : HeldPassed). any .stop) is-new ∙ same-stop;
-          same-put = ap (λ (any : HeldPassed). any .put) is-new ∙ put-stays;
-          leads = row-leads;
+          same-stop = refl;
+          same-put = refl;
+          turns-taken = λ places.
+              row-is-turns (tray-hears (old .tray .seen) (tells .able .after-setup)) window
+              (message .line) row (old .tray .seen .setup) room most (old .at) ram ram′ taken
+              is-taken some (cardOf (old .tray .held) places ram) _ (old .tray .fields)
+              (old .tray .offset) refl (as-row places);
         }
 
-pub ruleset rows = (words-grow, words-fit)
+    pub row-taken : (new : HeldPassed) → new ≡ passedAfter old message taken
+        → RowTaken window room most old ram (taken .left) new ram′
+    row-taken new is-new =
+        subst (λ (any : HeldPassed). RowTaken window room most old ram (taken .left) any ram′)
+        (sym is-new) behind-row
 
 -- what the record tells, for `search` and `omega`
 module _ {window ram ram′ : List ℕ} {room most left : ℕ} {old new : HeldPassed}
     (taken : RowTaken window room most old ram left new ram′) where
   pub turn-left : 0 < most → 1 ≤ left
-  turn-left some = omega (arith, taken .some-left some)
+  turn-left some = omega (arith, taken .turns-taken [] .some-left some)
 
   pub fewer-left : 0 < most → left - 1 < most
-  fewer-left some = omega (arith, taken .some-left some, taken .fewer)
+  fewer-left some =
+      omega (arith, taken .turns-taken [] .some-left some, taken .turns-taken [] .fewer)

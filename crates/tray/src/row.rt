@@ -1,23 +1,15 @@
-// A row of data words, taken at once: three quarters of the fields of a busy rack are such words.
-// Here they are found; the terminal stores them.
+// A row of data words for the open message: `rows` finds and stores them, and the terminal goes on
+// behind them.
 ghost use mathlib.Core.Path.{_≡_};
-ghost use Rattle.tray.specs.AsCoded.Row.{marksOn, stored, behindRow, passedAfter, RowTaken};
+ghost use Rattle.tray.specs.AsCoded.Row.{passedAfter, RowTaken};
 use crate::run::Tray;
 use crate::window::Passed;
-use lines;
 use message::state::Message;
 use message::state::OpenMessage;
-use recording;
-use recording::Found;
+use rows::Row;
+use rows::Taken;
 use std::num;
-use terminal::row::Row;
 use terminal::state::Held;
-
-// How far a row has come: what the terminal holds of it, and the place in the window.
-struct Reach {
-    row: Row,
-    at: usize,
-}
 
 // What a row of data words leaves of a run, and how many turns are left then.
 pub struct Rowed {
@@ -25,56 +17,28 @@ pub struct Rowed {
     pub left: u64,
 }
 
-// Data sync, sound and joined, on a line.
-fn marks_on(line: bool) -> u8
-    ensures { λ marks. ⌜ marks ≡ marksOn line ⌝ }
-{
-    if line { 13 } else { 12 }
-}
-
-impl Reach {
-    // Stores the data words on a line that stand next in the window, as many as are wanted.
-    fn store(self, ram: &mut [u16], window: &[u8], line: bool) -> Reach
-        ensures { λ end. ⌜ stored end (now (ram .exit))
-            ≡ behindRow (now (window .entry)) line (stored self (now (ram .entry))) ⌝ }
-    {
-        let marks = marks_on(line);
-        let mut row = self.row;
-        let mut at = self.at;
-        while row.taken < row.wanted {
-            let found = recording::find_word(window, at, marks);
-            let Found::Value { value, next } = found else {
-                break;
-            };
-            row = row.store(ram, value);
-            at = next;
-        }
-        Reach { row: row, at: at }
-    }
-}
-
-// The run behind a row of so many words for its open message.
-fn after_row(passed: Passed, message: OpenMessage, end: Reach, words: u16) -> Passed
-    ensures { λ left. ⌜ left ≡ passedAfter passed message end words ⌝ }
+// The run behind a row of words for its open message.
+fn after_row(passed: Passed, message: OpenMessage, taken: Taken) -> Passed
+    ensures { λ left. ⌜ left ≡ passedAfter passed message taken ⌝ }
 {
     let tray = passed.tray;
     let held = tray.held;
     let core = held.core;
     let ring = held.ring;
-    let row = end.row;
     let stop = passed.stop;
     let seen = tray.seen;
+    let words = taken.words as u64;
     Passed {
         tray: Tray {
             held: Held {
-                core: core.after_row(message, row),
+                core: core.after_row(message, taken.cell),
                 ring: ring,
             },
             seen: seen,
-            fields: num::wrapping_add_u64(tray.fields, words as u64),
-            offset: num::wrapping_add_u64(tray.offset, 10 * (words as u64)),
+            fields: num::wrapping_add_u64(tray.fields, words),
+            offset: num::wrapping_add_u64(tray.offset, 10 * words),
         },
-        at: end.at,
+        at: taken.at,
         put: passed.put,
         stop: stop,
     }
@@ -101,26 +65,23 @@ pub(crate) fn take_row(
             left: most,
         };
     };
-    let row = Row::of(message);
-    let able = tray.seen.setup
-        & (lines::LINE_ROOM <= room)
-        & (32 < most)
-        & (row.taken < row.wanted);
-    if !able {
+    let block = message.block;
+    // word k of a message goes to cell k
+    let row = Row {
+        block: block,
+        cell: message.taken,
+        end: message.wants(),
+    };
+    let setup = tray.seen.setup;
+    let taken = row.take(ram, window, passed.at, message.line, setup, room, most);
+    if taken.words == 0 {
         return Rowed {
             passed: passed,
             left: most,
         };
     }
-    let start = Reach {
-        row: row,
-        at: passed.at,
-    };
-    let end = start.store(ram, window, message.line);
-    let last = end.row;
-    let words = last.taken - row.taken;
     Rowed {
-        passed: after_row(passed, message, end, words),
-        left: most - (words as u64),
+        passed: after_row(passed, message, taken),
+        left: taken.left,
     }
 }

@@ -10,6 +10,7 @@ use lib.ListN.{length}
 use borrow.Author.Tests.{le-ltb}
 use Rattle.rules.proofs.Cases.{beq-same}
 use Rattle.bus.specs.declared.word.Word.{Word}
+use Rattle.bus.specs.DataWords.{DataWords, no-words, a-word, valuesOf}
 use Rattle.card.specs.Memory.{withCells}
 use Rattle.message.specs.declared.judge.SilenceAct.the-variants.{End}
 use Rattle.message.specs.declared.state.Stage.the-variants.{Data}
@@ -20,7 +21,7 @@ use Rattle.message.specs.Asked.{asks}
 use Rattle.message.specs.Silence.{onSilence}
 use Rattle.message.specs.Wants.{wants}
 use Rattle.terminal.specs.State.{Card, card, withMessage}
-use Rattle.terminal.specs.Row.{withTaken, valuesOf, DataWords, no-words, a-word}
+use Rattle.terminal.specs.Row.{withTaken}
 use Rattle.terminal.proofs.RowWords.{row-is-words}
 use Rattle.terminal_laws.specs.Closes.{silenceJudged}
 use Rattle.rack.specs.Segment.{dataWords}

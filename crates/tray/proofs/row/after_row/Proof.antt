@@ -1,8 +1,11 @@
 -- `tray::row::after_row` meets its contract. Assumes nothing.
 use borrow.Author.Needs.{needs}
-use Rattle.tray.proofs.RowLaws.{row-after}
+use Rattle.tray.proofs.RowTurns.{row-after}
 use Rattle.tray.proofs.row.after_row.Statement.{statement}
 use Rattle.tray.proofs.row.after_row.Tie as tie
+
+cast-words : tie.Need-cast-words
+cast-words c = search needs
 
 after-row-requires : tie.Need-after-row-requires
 after-row-requires c κs = search needs
@@ -23,6 +26,7 @@ pub after-row-spec : {M : Type 1} → statement M
 after-row-spec =
     tie.close
     (tie.spec
+    cast-words
     after-row-requires
     wrapping-add-u64-requires
     mul-wrapping-add-u64

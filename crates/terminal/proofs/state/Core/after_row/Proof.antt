@@ -1,6 +1,5 @@
 -- `terminal::Core::after_row` meets its contract. Assumes nothing.
 use borrow.Author.Needs.{needs}
-use Rattle.terminal.proofs.RowLaws.{behind-row}
 use Rattle.terminal.proofs.state.Core.after_row.Statement.{statement}
 use Rattle.terminal.proofs.state.Core.after_row.Tie as tie
 
@@ -11,7 +10,7 @@ with-message-requires : tie.Need-with-message-requires
 with-message-requires c κs = search needs
 
 returns : tie.Need-returns
-returns c = search (needs, behind-row)
+returns c = cc
 
 pub after-row-spec : {M : Type 1} → statement M
 after-row-spec = tie.close (tie.spec further-requires with-message-requires returns)
