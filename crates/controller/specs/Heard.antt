@@ -1,6 +1,7 @@
 -- Words and silences that come back, and the end of a message: rules 4 to 7 of K10. Definitions
 -- only. Assumes nothing.
 use mathlib.Core.Bool.{Bool, false, cond, not, _&&_, Bool·beq}
+use mathlib.Core.List.{List, [], _∷_}
 use Prim.Native.Nat.{ℕ}
 use lib.Dec.{eqb}
 use Rattle.bus.specs.declared.word.Word.{Word}
@@ -97,6 +98,11 @@ wordMet (Open message) word old =
 
 unfoldable pub wordStep : Word → Desk → Heard
 wordStep word old = wordMet (old .state .message) word old
+
+-- word after word
+unfoldable pub wordsStep : List Word → Desk → Desk
+wordsStep [] old = old
+wordsStep (word ∷ words) old = wordsStep words (wordStep word old .desk)
 
 -- ---- a silence
 

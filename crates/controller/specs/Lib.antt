@@ -3,6 +3,7 @@
 --     State      what the controller holds, and setup
 --     Start      what is given to the bus
 --     Heard      words and silences that come back, and the end of a message
+--     Row        the data words that are due, and a row of them
 --     Written    which cells it writes
 --     Given      the words to give, as a part of the memory
 --     Actions    the same with their refusals
@@ -10,6 +11,7 @@ pub mod Control
 pub mod State
 pub mod Start
 pub mod Heard
+pub mod Row
 pub mod Written
 pub mod Given
 pub mod Actions

@@ -109,7 +109,7 @@ impl Controller {
     }
 
     // The message goes on.
-    fn go_on(self, order: Order, exchange: Exchange) -> Controller
+    pub(crate) fn go_on(self, order: Order, exchange: Exchange) -> Controller
         ensures { λ controller. ⌜ controller
             ≡ withMessage (Open (record { order = order; progress = Back exchange })) self ⌝ }
     {

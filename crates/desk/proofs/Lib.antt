@@ -5,6 +5,7 @@
 --     DeedLaws       what each kind of field does
 --     LineLaws       the lines, as the code writes them
 --     TurnLaws       one field of a window
+--     RowTurns       a row of data words, taken at once, is as many turns
 --     LoopLaws       field after field
 --     Determined     each public contract allows one outcome alone
 pub mod ReadingLaws
@@ -13,5 +14,6 @@ pub mod TakenLaws
 pub mod DeedLaws
 pub mod LineLaws
 pub mod TurnLaws
+pub mod RowTurns
 pub mod LoopLaws
 pub mod Determined

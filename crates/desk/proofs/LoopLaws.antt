@@ -1,4 +1,5 @@
--- The loop of `run_window`, as `pieces` says it of every call. Assumes nothing.
+-- The loop of `run_window`, as `pieces` says it of every call: a row of data words, and a turn.
+-- Assumes nothing.
 use mathlib.Core.Path.{_≡_, refl, _∙_}
 use mathlib.Core.Bool.{Bool, true, false, not}
 use mathlib.Core.List.{List}
@@ -6,7 +7,12 @@ use Prim.Native.Nat.{ℕ, _-_, _≤_, _<_}
 use lib.ListN.{length}
 use Rattle.pieces.specs.AsCoded.Window.{Passed, isGoing, turn, turns}
 use Rattle.pieces.proofs.LeadLaws as general
+use Rattle.rows.proofs.LoopLaws as rows
+use Rattle.desk.specs.declared.window.Passed.{Passed as HeldPassed}
 use Rattle.desk.specs.Run.{Run, deskCourse}
+use Rattle.desk.specs.AsCoded.Held.{passedOf}
+use Rattle.desk.specs.AsCoded.Row.{RowTaken}
+use Rattle.desk.proofs.RowTurns.{turn-left, fewer-left}
 
 -- what the loop keeps; the lent memory stays as long as it was
 pub record Leads (window : List ℕ) (last : Bool) (start : Passed Run) (most : ℕ) (old : Passed Run)
@@ -33,19 +39,32 @@ module _ (window : List ℕ) (last : Bool) (start : Passed Run) (most : ℕ) whe
     pub leads-done : left ≤ 0 → old ≡ turns deskCourse most window last start
     leads-done = general.leads-done deskCourse window last start most old left (so-far .leads)
 
-    -- a turn more
-    pub leads-on : (going : Bool) (new : Passed Run) → 0 < left
-        → going ≡ isGoing (old .stop) → not going ≡ false
-        → new ≡ turn deskCourse window last old
-        → length (new .run .desk .ram) ≡ length (old .run .desk .ram)
-        → length (new .out) ≡ length (old .out)
-        → Leads window last start most new (left - 1)
-    leads-on going new some is-going goes is-new ram-long out-long =
+  -- a row of data words, and a turn more
+  module _ (old next : HeldPassed) (ram out ram′ : List ℕ) (room left left′ : ℕ) where
+    pub leads-on : (going : Bool) (new : Passed Run)
+        → Leads window last start most (passedOf old ram out) left
+        → 0 < left → going ≡ isGoing (old .stop) → not going ≡ false
+        → room ≡ length out - old .put
+        → RowTaken window room left old ram left′ next ram′
+        → new ≡ turn deskCourse window last (passedOf next ram′ out)
+        → length ram′ ≡ length ram
+        → length (new .run .desk .ram) ≡ length ram′
+        → length (new .out) ≡ length out
+        → Leads window last start most new (left′ - 1)
+    leads-on going new so-far some is-going goes is-room row is-new row-long ram-long out-long =
         record {
           leads =
-              general.leads-on deskCourse window last start most old left (so-far .leads) going new
-              some is-going goes is-new out-long;
-          ram-as-long = ram-long ∙ so-far .ram-as-long;
+              rows.leads-on deskCourse window last start most room (passedOf old ram out)
+              (passedOf next ram′ out) left left′ (so-far .leads) is-room (row .turns-taken)
+              (row .same-stop) (row .same-put) refl going new some is-going goes is-new out-long;
+          ram-as-long = ram-long ∙ row-long ∙ so-far .ram-as-long;
         }
 
-pub ruleset leading = (leads-at-start, leads-stopped, leads-done, leads-on)
+pub ruleset leading = (
+  leads-at-start,
+  leads-on,
+  leads-stopped,
+  leads-done,
+  turn-left,
+  fewer-left,
+)

@@ -9,6 +9,7 @@ use crate::field::Field;
 use crate::print;
 use crate::reading;
 use crate::reading::Reading;
+use crate::row;
 use crate::run::Run;
 use lines;
 use pieces;
@@ -130,7 +131,11 @@ pub fn run_window(run: Run, ram: &mut [u16], window: &[u8], out: &mut [u8], last
         if !stop.is_going() {
             break;
         }
-        passed = turn(passed, ram, window, out, last);
+        let room = lines::left_from(out.len(), passed.put);
+        let rowed = row::take_row(passed, ram, window, room, turns);
+        let next = rowed.passed;
+        turns = rowed.left;
+        passed = turn(next, ram, window, out, last);
         turns -= 1;
     }
     passed

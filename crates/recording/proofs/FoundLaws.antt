@@ -96,6 +96,8 @@ module _ (bytes : List ℕ) (place marks : ℕ) (few : marks ≤ allMarks) (seen
   abbrev Read : Found → Type 0
   Read (Value value next) =
       (next ≡ place + 10)
+      × (10 ≤ bytesLeft bytes place)
+      × (byteAt bytes place ≡ wordTag)
       × (readAt bytes place seen ≡ Taken (Word marks value (timeAt bytes (place + 6))) next)
   Read Nothing = place ≡ place
 
@@ -123,12 +125,16 @@ module _ (bytes : List ℕ) (place marks : ℕ) (few : marks ≤ allMarks) (seen
           let long = leb 10 (bytesLeft bytes place) in
           let to-marked = second-of-both long (tag && high && low && marked) is in
           let to-low = first-of-both (tag && high && low) marked to-marked in
-          let to-high = first-of-both (tag && high) low to-low in (
+          let to-high = first-of-both (tag && high) low to-low in
+          let whole : 10 ≤ bytesLeft bytes place =
+          leb-true 10 (bytesLeft bytes place)
+          (first-of-both long (tag && high && low && marked) is) in
+          let tagged : byteAt bytes place ≡ wordTag =
+          eqb-true (byteAt bytes place) wordTag (first-of-both tag high to-high) in (
             refl,
-            starts-is-read
-                (leb-true 10 (bytesLeft bytes place)
-                (first-of-both long (tag && high && low && marked) is))
-                (eqb-true (byteAt bytes place) wordTag (first-of-both tag high to-high))
+            whole,
+            tagged,
+            starts-is-read whole tagged
                 (eqb-true (byteAt bytes (place + 1)) 0 (second-of-both tag high to-high))
                 (eqb-true (byteAt bytes (place + 2)) 7 (second-of-both (tag && high) low to-low))
                 (eqb-true (byteAt bytes (place + 3)) marks
@@ -138,7 +144,13 @@ module _ (bytes : List ℕ) (place marks : ℕ) (few : marks ≤ allMarks) (seen
   module _ {value next : ℕ} (is : wordFound bytes place marks ≡ Value value next) where
     pub found-is-read :
         readAt bytes place seen ≡ Taken (Word marks value (timeAt bytes (place + 6))) next
-    found-is-read = subst Read is found-tells .1
+    found-is-read = subst Read is found-tells .3
 
     pub found-moves-on : next ≡ place + 10
     found-moves-on = subst Read is found-tells .0
+
+    pub found-whole : 10 ≤ bytesLeft bytes place
+    found-whole = subst Read is found-tells .1
+
+    pub found-tag : byteAt bytes place ≡ wordTag
+    found-tag = subst Read is found-tells .2

@@ -1,16 +1,13 @@
 -- The loop of `run_window`, as `pieces` says it of every call: a row of data words, and a turn.
 -- Assumes nothing.
-use mathlib.Core.Path.{_≡_, refl, sym, ap, _∙_}
+use mathlib.Core.Path.{_≡_, refl, _∙_}
 use mathlib.Core.Bool.{Bool, true, false, not}
 use mathlib.Core.List.{List}
 use Prim.Native.Nat.{ℕ, _-_, _≤_, _<_}
 use lib.ListN.{length}
-use borrow.Author.Tests.{not-false}
-use Rattle.pieces.specs.declared.stop.Stop.the-variants.{Going}
 use Rattle.pieces.specs.AsCoded.Window.{isGoing}
-use Rattle.pieces.proofs.StopLaws.{going-is}
 use Rattle.pieces.proofs.LeadLaws as general
-use Rattle.rows.proofs.LoopLaws.{leads-behind}
+use Rattle.rows.proofs.LoopLaws as rows
 use Rattle.tray.specs.declared.window.Passed.{Passed as HeldPassed}
 use Rattle.tray.specs.Run.{trayCourse}
 use Rattle.tray.specs.AsCoded.Window.{Passed, turn, turns}
@@ -56,18 +53,12 @@ module _ (window : List ℕ) (last : Bool) (start : Passed) (most : ℕ) where
         → length (new .out) ≡ length out
         → Leads window last start most new (left′ - 1)
     leads-on going new so-far some is-going goes is-room row is-new row-long ram-long out-long =
-        let is : old .stop ≡ Going =
-        going-is (old .stop) (sym is-going ∙ not-false going goes) in
-        let behind : general.Leads trayCourse window last start most
-        (passedOf next places ram′ out) left′ =
-        leads-behind trayCourse window last start most room (passedOf old places ram out)
-        (passedOf next places ram′ out) left left′ (so-far .leads) is is-room
-        (row .turns-taken places) (row .same-stop) (row .same-put) refl in
         record {
           leads =
-              general.leads-on trayCourse window last start most (passedOf next places ram′ out)
-              left′ behind going new (row .turns-taken places .some-left some)
-              (is-going ∙ ap isGoing (sym (row .same-stop))) goes is-new out-long;
+              rows.leads-on trayCourse window last start most room (passedOf old places ram out)
+              (passedOf next places ram′ out) left left′ (so-far .leads) is-room
+              (row .turns-taken places) (row .same-stop) (row .same-put) refl going new some
+              is-going goes is-new out-long;
           ram-as-long = ram-long ∙ row-long ∙ so-far .ram-as-long;
         }
 

@@ -2,7 +2,7 @@
 use borrow.Author.Needs.{needs}
 use Rattle.pieces.specs.AsCoded.Window.{windowRun}
 use Rattle.desk.specs.AsCoded.Held.{passedOf}
-use Rattle.desk.proofs.LoopLaws.{Leads, leading}
+use Rattle.desk.proofs.LoopLaws.{Leads, leads-on, leading}
 use Rattle.desk.proofs.window.run_window.Statement.{statement}
 use Rattle.desk.proofs.window.run_window.Tie as tie
 
@@ -19,6 +19,12 @@ loop-holds c = search (needs, leading) depth 9
 is-going-requires : tie.Need-is-going-requires Inv-loop μ-loop
 is-going-requires c κs = search (needs, leading) depth 9
 
+left-from-requires : tie.Need-left-from-requires Inv-loop μ-loop
+left-from-requires c κs = search (needs, leading) depth 9
+
+take-row-requires : tie.Need-take-row-requires Inv-loop μ-loop
+take-row-requires c κs = search (needs, leading) depth 9
+
 turn-requires : tie.Need-turn-requires Inv-loop μ-loop
 turn-requires c κs = search (needs, leading) depth 9
 
@@ -29,7 +35,22 @@ loop-less : tie.Need-loop-less Inv-loop μ-loop
 loop-less c = search (needs, leading) depth 9
 
 loop-again : tie.Need-loop-again Inv-loop μ-loop
-loop-again c = search (needs, leading) depth 9
+loop-again c =
+    let at-turn = c .before .before .before .before in
+    let at-row = at-turn .before .before .before .before .before .before in
+    let at-room = at-row .before .before in
+    let at-going = at-room .before .before in
+    leads-on _ _ _ _ _ _ _ _ _ _ _ _ _ _
+    (at-going .before .before .loop .inv)
+    (at-going .before .loop-test .taken)
+    (at-going .is-going .ensures)
+    (at-room .before .if1 .left)
+    (at-room .left-from .ensures)
+    (at-row .take-row .ensures)
+    (at-turn .turn .ensures)
+    (search needs)
+    (search needs)
+    (search needs)
 
 same-length : tie.Need-same-length Inv-loop μ-loop
 same-length c = search (needs, leading) depth 9
@@ -59,6 +80,8 @@ run-window-spec =
     μ-loop
     loop-holds
     is-going-requires
+    left-from-requires
+    take-row-requires
     turn-requires
     sub-turns
     loop-less
