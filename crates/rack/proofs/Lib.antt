@@ -1,5 +1,6 @@
 -- The mathematics of the joined bus. Read `Theorems`: what is proved.
 --     Theorems   the statements, by name
+--     Segments   the data words of a segment
 --     Terminal   what a terminal makes of the turns of a message
 --     Desk       the controller's side: what a start gives, and what comes back
 --     Lists      terminals in a list, and the one of them that replies
@@ -7,6 +8,7 @@
 --     Ending     every message ends
 --     Satisfied  what is asked of a message can be had
 mod Theorems
+pub mod Segments
 pub mod Terminal
 pub mod Desk
 pub mod Lists

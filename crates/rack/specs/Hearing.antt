@@ -12,7 +12,7 @@ use Rattle.terminal.specs.Reply.{replyWords}
 use Rattle.terminal.specs.Event.{word, silence, Outcome}
 use Rattle.terminal.specs.Machine.{step}
 use Rattle.controller.specs.State.{Desk}
-use Rattle.controller.specs.Heard.{wordStep, silenceStep}
+use Rattle.controller.specs.Heard.{wordsStep, silenceStep}
 use Rattle.rack.specs.Segment.{segment, Spoken, Nothing, Said, atStation, atDesk}
 
 -- the stamps of a turn: of each word by its place, and of the silence
@@ -49,10 +49,6 @@ saidAfter outcome = saidIn (outcome .answer) (outcome .card)
 
 -- ---- the controller
 
-unfoldable pub deskHears : List Word → Desk → Desk
-deskHears [] old = old
-deskHears (heard ∷ words) old = deskHears words (wordStep heard old .desk)
-
 unfoldable pub deskTurn : Bool → Stamps → Spoken → Desk → Desk
 deskTurn line stamps spoken old =
-    silenceStep line (deskHears (atDesk line (stamps .word) spoken) old) .desk
+    silenceStep line (wordsStep (atDesk line (stamps .word) spoken) old) .desk

@@ -30,7 +30,7 @@ use Rattle.controller.specs.Start.{withOrder, starting, startingBy, startStep}
 use Rattle.controller.specs.Heard as heard
 use Rattle.controller.specs.Actions.{startAction}
 use Rattle.rack.specs.Segment.{dataWords, atStation, atDesk}
-use Rattle.rack.specs.Hearing.{hears, turnOf, saidIn, deskHears, deskTurn}
+use Rattle.rack.specs.Hearing.{hears, turnOf, saidIn, deskTurn}
 use Rattle.rack.specs.Bus.{
   turnAll,
   turn,
@@ -89,7 +89,7 @@ answers = 0
 -- ---- the bus
 
 turns : ℕ
-unfolding dataWords atStation atDesk hears turnOf saidIn deskHears deskTurn turnAll turn placed
+unfolding dataWords atStation atDesk hears turnOf saidIn heard.wordsStep deskTurn turnAll turn placed
     repliesTo
 turns = 0
 

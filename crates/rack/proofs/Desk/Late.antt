@@ -37,8 +37,8 @@ use Rattle.controller.specs.Heard.{
   wordDone,
   wordMet,
   wordStep,
+  wordsStep,
 }
-use Rattle.rack.specs.Hearing.{deskHears}
 
 -- silences that are to come at the most
 abbrev pub awaits : Stage → ℕ
@@ -151,8 +151,8 @@ word-late {line} {most} word now (going message is on-line few) =
     (met-late now word on-line message is few)
 
 pub words-late : {line : Bool} {most : ℕ} (words : List Word) (now : Desk) → Late line most now
-    → Late line most (deskHears words now)
-unfolding deskHears
+    → Late line most (wordsStep words now)
+unfolding wordsStep
 words-late [] now late = late
 words-late (word ∷ words) now late =
     words-late words (wordStep word now .desk) (word-late word now late)

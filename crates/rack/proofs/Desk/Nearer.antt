@@ -24,9 +24,16 @@ use Rattle.controller.specs.declared.state.Message.the-variants.{Idle, Open}
 use Rattle.controller.specs.Control.{lineIn}
 use Rattle.controller.specs.State.{Desk, isIdle, withMessage}
 use Rattle.controller.specs.Start.{withOrder}
-use Rattle.controller.specs.Heard.{ended, silenceIn, silenceDone, silenceMet, silenceStep}
+use Rattle.controller.specs.Heard.{
+  ended,
+  wordsStep,
+  silenceIn,
+  silenceDone,
+  silenceMet,
+  silenceStep,
+}
 use Rattle.rack.specs.Segment.{Spoken, atDesk}
-use Rattle.rack.specs.Hearing.{Stamps, deskHears, deskTurn}
+use Rattle.rack.specs.Hearing.{Stamps, deskTurn}
 use Rattle.rack.proofs.Desk.Starting.{openDesk}
 use Rattle.rack.proofs.Desk.Late.{awaits, silences, Late, over, going, words-late}
 
@@ -94,7 +101,7 @@ pub turn-late : (line : Bool) (most : ℕ) (stamps : Stamps) (spoken : Spoken) (
     → Late line (suc most) now → Late line most (deskTurn line stamps spoken now)
 unfolding deskTurn
 turn-late line most stamps spoken now late =
-    silence-late line most (deskHears (atDesk line (stamps .word) spoken) now)
+    silence-late line most (wordsStep (atDesk line (stamps .word) spoken) now)
     (words-late (atDesk line (stamps .word) spoken) now late)
 
 -- a message that begins

@@ -24,9 +24,9 @@ use Rattle.controller.specs.declared.state.Progress.the-variants.{Given as Give
 use Rattle.controller.specs.Control.{blockIn, lineIn}
 use Rattle.controller.specs.State.{Desk, desk, withMessage}
 use Rattle.controller.specs.Start.{withOrder}
-use Rattle.controller.specs.Heard.{ended, silenceDone, silenceMet, silenceStep}
+use Rattle.controller.specs.Heard.{wordsStep, ended, silenceDone, silenceMet, silenceStep}
 use Rattle.rack.specs.Segment.{Segment, segment, Given, Said, dataWords, atDesk}
-use Rattle.rack.specs.Hearing.{Stamps, deskHears, deskTurn}
+use Rattle.rack.specs.Hearing.{Stamps, deskTurn}
 use Rattle.rack.proofs.Desk.Starting.{openDesk}
 use Rattle.rack.proofs.Desk.Words.{backAt, answer-stored, last-status-taken}
 
@@ -87,7 +87,7 @@ module _ (order : Order) (old : Desk) where
       → deskTurn (lineIn (old .state .control)) stamps (Given said) (openDesk order old)
       ≡ cond (formatFor order .status) (backAt (openDesk order old) order atFirst (old .ram))
       (ended 0 false (openDesk order old) .desk)
-  unfolding deskTurn atDesk deskHears
+  unfolding deskTurn atDesk wordsStep
   given-turn stamps said = first-silence
 
 module _ (start : Desk) (order : Order) (stamps : Stamps) (speaker status : ℕ) (mark : Bool)
@@ -124,7 +124,7 @@ module _ (start : Desk) (order : Order) (stamps : Stamps) (speaker status : ℕ)
       (backAt start order (exchangeOf AwaitingLast taken mark) ram)
       ≡ ended 0 marked (backAt start order (exchangeOf Ended taken marked)
       (withCell ram block (theCell (lastCell (formatFor order))) status)) .desk
-  unfolding deskTurn atDesk deskHears dataWords
+  unfolding deskTurn atDesk wordsStep dataWords
   last-turn taken is =
       ap (λ (any : Desk). silenceStep line any .desk)
       (last-status-taken start order status (stamps .word 0) taken mark ram is)

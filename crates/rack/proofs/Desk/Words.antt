@@ -3,11 +3,11 @@
 use mathlib.Core.Path.{_≡_, ap, _∙_}
 use mathlib.Core.Bool.{Bool, false, _||_}
 use mathlib.Core.List.{List, [], _∷_}
-use Prim.Native.Nat.{ℕ, suc, _+_, _≤_, _<_}
+use Prim.Native.Nat.{ℕ}
 use native.Mathlib.Nat.{add-zero, zero-add}
 use native.Mathlib.Omega.{arith}
 use lib.ListN.{length}
-use borrow.Author.Tests.{eq-eqb, lt-leb}
+use borrow.Author.Tests.{eq-eqb}
 use Rattle.rules.proofs.Cases.{beq-same}
 use Rattle.bus.specs.Command.{addressOf}
 use Rattle.card.specs.declared.place.Block.{Block}
@@ -22,7 +22,6 @@ use Rattle.exchange.specs.Judge.{
   exchangeOf,
   isMarked,
   statusHeard,
-  dataHeard,
   wordHeard,
   onWord,
 }
@@ -30,9 +29,10 @@ use Rattle.controller.specs.declared.state.Progress.the-variants.{Back}
 use Rattle.controller.specs.declared.state.Message.the-variants.{Open}
 use Rattle.controller.specs.Control.{blockIn, lineIn}
 use Rattle.controller.specs.State.{Desk, desk, withMessage}
-use Rattle.controller.specs.Heard.{wordDone, wordMet, wordStep}
-use Rattle.rack.specs.Segment.{segment, commandWord, dataWord, dataWords, wordsOn}
-use Rattle.rack.specs.Hearing.{deskHears}
+use Rattle.controller.specs.Heard.{wordDone, wordMet, wordStep, wordsStep}
+use Rattle.controller.proofs.RowWords.{row-is-words}
+use Rattle.rack.specs.Segment.{segment, commandWord, dataWords, wordsOn}
+use Rattle.rack.proofs.Segments.{values-of-data, length-of-data, all-of-data}
 
 -- the answer to an order has come so far, over a memory
 abbrev pub backAt : Desk → Order → Exchange → List ℕ → Desk
@@ -69,51 +69,36 @@ module _ (start : Desk) (order : Order) where
     unfolding wordStep wordMet wordDone onWord wordHeard statusHeard withMessage
     last-status-taken is = rw (beq-same line, eq-eqb (addressOf value) (awaitedLast order) is)
 
-    data-word-taken : taken < formatFor order .reply
-        → wordStep (dataWord line value time) (at (exchangeOf Reply taken mark) ram) .desk
-        ≡ at (exchangeOf Reply (taken + 1) mark)
-        (withCell ram block (theCell (replyCell (formatFor order) + taken)) value)
-    unfolding wordStep wordMet wordDone onWord wordHeard dataHeard withMessage
-    data-word-taken more = rw (beq-same line, lt-leb (formatFor order .reply) taken more)
-
   -- ---- one after the other
 
-  data-words-taken : (words : List ℕ) (time : ℕ → ℕ) (place taken : ℕ) (mark : Bool)
-      (ram : List ℕ) → taken + length words ≤ formatFor order .reply
-      → deskHears (dataWords line time place words) (at (exchangeOf Reply taken mark) ram)
-      ≡ at (exchangeOf Reply (taken + length words) mark)
-      (withCells ram block (replyCell (formatFor order) + taken) words)
-  unfolding deskHears dataWords withCells
-  data-words-taken [] time place taken mark ram few = rw add-zero
-  data-words-taken (value ∷ words) time place taken mark ram few =
-      let next : taken + 1 + length words ≡ taken + suc (length words) = omega arith in
-      let from : ℕ = replyCell (formatFor order) + taken in
-      let cell : replyCell (formatFor order) + (taken + 1) ≡ from + 1 = omega arith in
-      let stored : List ℕ = withCell ram block (theCell from) value in
-      ap (λ (any : Desk). deskHears (dataWords line time (suc place) words) any)
-      (data-word-taken value (time place) taken mark ram (omega arith))
-      ∙ data-words-taken words time (suc place) (taken + 1) mark stored (omega arith)
-      ∙ ap (λ (count : ℕ). at (exchangeOf Reply count mark)
-      (withCells stored block (replyCell (formatFor order) + (taken + 1)) words)) next
-      ∙ ap (λ (any : ℕ). at (exchangeOf Reply (taken + suc (length words)) mark)
-      (withCells stored block any words)) cell
+  data-words-taken : (words : List ℕ) (time : ℕ → ℕ) (place : ℕ) (mark : Bool) (ram : List ℕ)
+      → length words ≡ formatFor order .reply
+      → wordsStep (dataWords line time place words) (at (exchangeOf Reply 0 mark) ram)
+      ≡ at (exchangeOf Reply (length words) mark)
+      (withCells ram block (replyCell (formatFor order)) words)
+  data-words-taken words time place mark ram all =
+      let long = length-of-data line time words place in
+      row-is-words (start .state) order mark (dataWords line time place words) 0 ram
+      (all-of-data line time words place) (omega (arith, long, all))
+      ∙ rw (
+        long,
+        zero-add (length words),
+        add-zero (replyCell (formatFor order)),
+        values-of-data line time words place,
+      )
 
   -- the whole answer stands behind the words given
   pub answer-stored : (status : ℕ) (words : List ℕ) (time : ℕ → ℕ) (mark : Bool) (ram : List ℕ)
       → addressOf status ≡ awaited order → length words ≡ formatFor order .reply
-      → deskHears (wordsOn line time (segment status Absent words))
+      → wordsStep (wordsOn line time (segment status Absent words))
       (at (exchangeOf Awaiting 0 mark) ram)
       ≡ at (exchangeOf Reply (length words) (mark || isMarked status))
       (withCells ram block (statusCell (formatFor order)) (status ∷ words))
-  unfolding deskHears withCells
+  unfolding wordsStep withCells
   answer-stored status words time mark ram is all =
       let marked : Bool = mark || isMarked status in
       let stored : List ℕ =
       withCell ram block (theCell (statusCell (formatFor order))) status in
-      ap (λ (any : Desk). deskHears (dataWords line time 1 words) any)
+      ap (λ (any : Desk). wordsStep (dataWords line time 1 words) any)
       (status-taken status (time 0) 0 mark ram is)
-      ∙ data-words-taken words time 1 0 marked stored (omega (arith, all))
-      ∙ ap (λ (count : ℕ). at (exchangeOf Reply count marked)
-      (withCells stored block (replyCell (formatFor order) + 0) words)) (zero-add (length words))
-      ∙ ap (λ (from : ℕ). at (exchangeOf Reply (length words) marked)
-      (withCells stored block from words)) (add-zero (replyCell (formatFor order)))
+      ∙ data-words-taken words time 1 marked stored all

@@ -10,7 +10,6 @@ use lib.ListN.{length}
 use borrow.Author.Tests.{le-ltb}
 use Rattle.rules.proofs.Cases.{beq-same}
 use Rattle.bus.specs.declared.word.Word.{Word}
-use Rattle.bus.specs.DataWords.{DataWords, no-words, a-word, valuesOf}
 use Rattle.card.specs.Memory.{withCells}
 use Rattle.message.specs.declared.judge.SilenceAct.the-variants.{End}
 use Rattle.message.specs.declared.state.Stage.the-variants.{Data}
@@ -26,30 +25,8 @@ use Rattle.terminal.proofs.RowWords.{row-is-words}
 use Rattle.terminal_laws.specs.Closes.{silenceJudged}
 use Rattle.rack.specs.Segment.{dataWords}
 use Rattle.rack.specs.Hearing.{hears}
+use Rattle.rack.proofs.Segments.{values-of-data, length-of-data, all-of-data}
 use Rattle.rack.proofs.Terminal.Hear.{hears-is-run}
-
--- ---- the data words of a segment are a row
-
-module _ (line : Bool) (time : ℕ → ℕ) where
-  values-of-data : (words : List ℕ) (place : ℕ) → valuesOf (dataWords line time place words) ≡ words
-  unfolding dataWords
-  values-of-data [] place = refl
-  values-of-data (value ∷ words) place =
-      ap (λ (values : List ℕ). value ∷ values) (values-of-data words (suc place))
-
-  length-of-data : (words : List ℕ) (place : ℕ)
-      → length (dataWords line time place words) ≡ length words
-  unfolding dataWords
-  length-of-data [] place = refl
-  length-of-data (value ∷ words) place =
-      ap (λ (count : ℕ). suc count) (length-of-data words (suc place))
-
-  all-of-data : (words : List ℕ) (place : ℕ) → DataWords line (dataWords line time place words)
-  unfolding dataWords
-  all-of-data [] place = no-words
-  all-of-data (value ∷ words) place =
-      a-word (record { of-data = refl; sound = refl; joined = refl; same-line = refl })
-      (all-of-data words (suc place))
 
 -- ---- they are taken
 
