@@ -22,6 +22,10 @@ use Rattle.controller.proofs.state.Controller.hear_word.Kinds as hear-w
 use Rattle.controller.proofs.state.Controller.hear_word.Reads as hear-word-reads
 use Rattle.controller.proofs.state.Controller.hear_silence.Kinds as hear-silence-kinds
 use Rattle.controller.proofs.state.Controller.hear_silence.Reads as hear-silence-reads
+use Rattle.controller.proofs.state.Controller.words_due.Kinds as words-due-kinds
+use Rattle.controller.proofs.state.Controller.words_due.Reads as words-due-reads
+use Rattle.controller.proofs.state.Controller.with_taken.Kinds as with-taken-kinds
+use Rattle.controller.proofs.state.Controller.with_taken.Reads as with-taken-reads
 use Rattle.controller.proofs.state.Controller.word.Kinds as word-kinds
 use Rattle.controller.proofs.state.Controller.word.Reads as word-reads
 use Rattle.controller.proofs.state.Controller.silence.Kinds as silence-kinds
@@ -67,6 +71,12 @@ hear-word κs arguments result result′ exit exit′ = same
 pub hear-silence :
     Determined 1 hear-silence-kinds.ps hear-silence-kinds.r hear-silence-reads.Post
 hear-silence κs arguments result result′ exit exit′ is is′ = ap heardBy (same is is′)
+
+pub words-due : Determined 0 words-due-kinds.ps words-due-kinds.r words-due-reads.Post
+words-due κs arguments result result′ exit exit′ = same
+
+pub with-taken : Determined 0 with-taken-kinds.ps with-taken-kinds.r with-taken-reads.Post
+with-taken κs arguments result result′ exit exit′ = same
 
 pub word :
     DeterminedAs 1 word-kinds.ps word-kinds.r word-reads.Post After
