@@ -1,9 +1,9 @@
 -- What a write leaves alone, for memory of any length and so for any number of blocks.
 --     other-blocks-kept    a change that keeps to one block leaves every cell of every other
---     cell-keeps, service-keeps, link-keeps, words-keep    which cells each write keeps to
+--     cell-keeps, cells-keep, service-keeps, link-keeps, words-keep    which cells each write keeps to
 --     link-moves           what stands in the table cell after `cell 63 into the table cell`
 -- Assumes nothing.
-use mathlib.Core.Path.{_≡_, refl, _∙_}
+use mathlib.Core.Path.{_≡_, refl, sym, subst, _∙_}
 use mathlib.Core.Logic.{_≢_}
 use mathlib.Core.List.{List, [], _∷_}
 use Prim.Native.Nat.{ℕ, suc, _+_, _/_, _%_, _≤_, _<_}
@@ -19,6 +19,7 @@ use Rattle.card.specs.Memory.{
   wordAddress,
   cellAt,
   withCell,
+  withCells,
   withService,
   withLink,
 }
@@ -92,6 +93,22 @@ cell-keeps block cell word =
             | no past ↦ rw (← with-cell-past ram block cell word (omega arith))
           ];
     }
+
+-- words into cells, one after the other, keep to these
+pub cells-keep : {Written : ℕ → Type 0} (words : List ℕ) (block : Block) (first : ℕ)
+    → ((cell : ℕ) → first ≤ cell → cell < first + length words
+    → Written (wordAddress block (theCell cell)))
+    → Keeps Written (λ ram. withCells ram block first words)
+unfolding withCells
+cells-keep [] block first may =
+    record { same-length = λ ram. refl; same-else = λ ram address else. refl }
+cells-keep {Written} (word ∷ words) block first may =
+    keeps-then
+    (keeps-to-more
+    (λ address is. subst Written (sym is) (may first (omega arith) (omega arith)))
+    (cell-keeps block (theCell first) word))
+    (cells-keep words block (first + 1)
+    (λ cell from to. may cell (omega (arith, from)) (omega (arith, to))))
 
 -- the service cells alone
 pub service-keeps : (block : Block) (state closing ticks : ℕ)

@@ -5,6 +5,7 @@
 --     Bus          turns until the message has ended, and a run of messages
 --     Terminals    any number of terminals
 --     Asked        what is asked of a message
+--     Changed      which cells a message may change at a terminal
 --     SameWords    what is then the same at both ends
 --     Ending       that every message ends, and how soon
 pub mod Segment
@@ -12,5 +13,6 @@ pub mod Hearing
 pub mod Bus
 pub mod Terminals
 pub mod Asked
+pub mod Changed
 pub mod SameWords
 pub mod Ending

@@ -22,6 +22,7 @@ use Rattle.rack.specs.Hearing.{Stamps}
 use Rattle.rack.specs.Bus.{Rack, message}
 use Rattle.rack.specs.Terminals.{EachOf}
 use Rattle.rack.specs.Asked.{IsIdle, openedFor, taken, Asked}
+use Rattle.rack.specs.Changed.{ChangesOnly}
 
 -- the data words of an order are the same at both ends: in the controller's block, and in the block
 -- fixed at the opening of the command that a terminal takes
@@ -31,11 +32,12 @@ SameWords order desk ram command old new =
     → cellAt (new .ram) (openedFor command old .block) (theCell cell)
     ≡ cellAt ram (blockIn (desk .state .control)) (theCell (dataCell (order .row) + cell))
 
--- a terminal that takes a command is idle again with the same words; any other is as before
+-- a terminal that takes a command is idle again with the same words, and no other cell has changed;
+-- any other terminal is as before
 abbrev pub Served : Order → Desk → List ℕ → Option ℕ → Card → Card → Type 0
 Served order desk ram none old new = new ≡ old
 Served order desk ram (some command) old new =
-    IsIdle new × SameWords order desk ram command old new
+    IsIdle new × SameWords order desk ram command old new × ChangesOnly command old new
 
 -- a result with this code
 abbrev pub HasCode : ℕ → Result → Type 0

@@ -78,6 +78,7 @@ module _ (message : OpenMessage) (old : Card) (value : ℕ) where
         status = ended .status;
         long = ended .long;
         stored = ended .stored;
+        kept = ended .kept;
         silent = ended .silent;
         said = ended .said;
       }

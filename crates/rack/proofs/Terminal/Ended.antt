@@ -11,6 +11,7 @@ use Rattle.bus.specs.Command.{isBroadcast}
 use Rattle.card.specs.Memory.{blockCells, cardBlocks, theCell, wordAddress, cellAt, withCells}
 use Rattle.card.specs.Sent.{sentPart}
 use Rattle.card.proofs.CellLaws.{length-with-cells, cell-of-with-cells}
+use Rattle.card.proofs.Frame.{cells-keep}
 use Rattle.message.specs.declared.judge.SilenceAct.the-variants.{End}
 use Rattle.message.specs.declared.state.Second.the-variants.{Absent}
 use Rattle.message.specs.declared.state.OpenMessage.{OpenMessage}
@@ -23,11 +24,12 @@ use Rattle.terminal.specs.Closing.{closing, ended}
 use Rattle.terminal.specs.Event.{silence, Outcome}
 use Rattle.terminal.specs.SilenceStep.{silenceDone}
 use Rattle.terminal.specs.Machine.{step}
-use Rattle.terminal_laws.specs.Written.{TableElsewhere}
-use Rattle.terminal_laws.proofs.StepFrame.{silence-step}
+use Rattle.terminal_laws.specs.Written.{TableElsewhere, WritesOnly}
+use Rattle.terminal_laws.proofs.StepFrame.{silence-step, written-closing}
 use Rattle.terminal_laws.proofs.ClosedCells.{closed-length, closed-data-cell}
 use Rattle.rack.specs.Segment.{segment, Nothing, Said, dataWords}
 use Rattle.rack.specs.Hearing.{hears, saidIn, saidAfter}
+use Rattle.rack.specs.Changed.{MayChange, a-data-cell, a-service-cell, the-link}
 use Rattle.rack.proofs.Terminal.Taken.{
   AtItsData,
   filledMessage,
@@ -47,6 +49,8 @@ pub record Ended (message : OpenMessage) (words : List ℕ) (old : Card) (outcom
   pub long : length (outcome .card .ram) ≡ length (old .ram)
   pub stored : (cell : ℕ) → cell < length words
       → cellAt (outcome .card .ram) (message .block) (theCell cell) ≡ getD words cell 0
+  pub kept : WritesOnly (MayChange (asks message) (message .block) (message .table)) (old .ram)
+      (outcome .card .ram)
   pub silent : isBroadcast (message .command) ≡ true → saidAfter outcome ≡ Nothing
   pub said : isBroadcast (message .command) ≡ false
       → cond (message .line) (old .core .shut .b) (old .core .shut .a) ≡ false
@@ -77,6 +81,27 @@ module _ (message : OpenMessage) (old : Card) (at-data : AtItsData message old) 
       ∙ cell-of-with-cells words (old .ram) (message .block) 0 cell below
       (omega (arith, full, few)) (omega (arith, full, few, in-memory))
 
+  -- words into the first cells, then the closing
+  kept-at-end : (time : ℕ)
+      → WritesOnly (MayChange (asks message) (message .block) (message .table)) (old .ram)
+      (at-end time .card .ram)
+  unfolding silenceDone ended closing further
+  kept-at-end time =
+      let cells =
+      cells-keep {Written = MayChange (asks message) (message .block) (message .table)} words
+      (message .block) 0
+      (λ cell from to. a-data-cell (omega (arith, full, to)) refl) in
+      let closed =
+      written-closing {Written = MayChange (asks message) (message .block) (message .table)}
+      (asks message) _ time last (withCells (old .ram) (message .block) 0 words)
+      (λ has cell address from to is. a-service-cell has from to is)
+      (λ has stays address is. the-link has is) in
+      record {
+        same-length = closed .same-length ∙ cells .same-length (old .ram);
+        same-else = λ address else.
+            closed .same-else address else ∙ cells .same-else (old .ram) address else;
+      }
+
   ended-at-end : (time : ℕ) → Ended message words old (at-end time)
   unfolding silenceDone ended closing withMessage withSwitches further saidIn
   ended-at-end time =
@@ -88,6 +113,7 @@ module _ (message : OpenMessage) (old : Card) (at-data : AtItsData message old) 
             closed-length (asks message) _ time last _
             ∙ length-with-cells words (old .ram) (message .block) 0;
         stored = stored-at-end time;
+        kept = kept-at-end time;
         silent = λ to-all.
             broadcast-is-silent (asks message) (filled words message old .core) last
             (old .core .station) _ to-all;

@@ -92,6 +92,7 @@ module _ (line joined : Bool) (command time : ℕ) (old : Card) where
         station = ended .station;
         long = ended .long;
         stored = ended .stored;
+        kept = ended .kept;
         sent-long = sent-length cardBlocks ram block (sound .whole-memory) on-card _ few;
         sent = sent-cell cardBlocks ram block (sound .whole-memory) on-card _ few;
         silent = ended .silent;

@@ -15,6 +15,7 @@ use Rattle.terminal.specs.Event.{Outcome}
 use Rattle.rack.specs.Segment.{segment, Nothing, Said}
 use Rattle.rack.specs.Hearing.{Stamps, turnOf, saidAfter}
 use Rattle.rack.specs.Asked.{IsIdle, openedFor}
+use Rattle.rack.specs.Changed.{ChangesOnly}
 
 -- a command whose reply is its status and words of its block, if it asks for any: it is legal, and
 -- not the one that asks for the last command
@@ -35,6 +36,7 @@ pub record Took (command : ℕ) (words : List ℕ) (old : Card) (outcome : Outco
   pub stored : (cell : ℕ) → cell < length words
       → cellAt (outcome .card .ram) (openedFor command old .block) (theCell cell)
       ≡ getD words cell 0
+  pub kept : ChangesOnly command old (outcome .card)
   pub sent-long : length (sentBy command old (outcome .card)) ≡ askedOf command .sends
   pub sent : (cell : ℕ) → cell < askedOf command .sends
       → getD (sentBy command old (outcome .card)) cell 0

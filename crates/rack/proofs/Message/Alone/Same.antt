@@ -76,7 +76,7 @@ module _ (order : Order) (clock : ℕ → Stamps) (old : Rack) where
         → Turned line (clock firstTurn) (order .first) (dataGiven order (old .desk)) terminal
         → Served order (old .desk) ram (taken order terminal) terminal (behindFirst terminal .card)
     serve terminal same (took own done) =
-        rw (first .alone .takes terminal, own) (done .idle, same own done)
+        rw (first .alone .takes terminal, own) (done .idle, same own done, done .kept)
     serve terminal same (stays strange quiet) =
         rw (first .alone .takes terminal, strange) (ap (λ (any : Outcome). any .card) quiet)
 

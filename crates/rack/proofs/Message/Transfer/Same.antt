@@ -21,6 +21,7 @@ use Rattle.rack.specs.Hearing.{Stamps, turnOf}
 use Rattle.rack.specs.Bus.{Rack, turnAll}
 use Rattle.rack.specs.Terminals.{EachOf}
 use Rattle.rack.specs.Asked.{IsIdle, taken}
+use Rattle.rack.specs.Changed.{ChangesOnly}
 use Rattle.rack.specs.SameWords.{SameWords, Served}
 use Rattle.rack.proofs.Terminal.Took.{Took}
 use Rattle.rack.proofs.Terminal.Own.{own-is-home}
@@ -116,15 +117,17 @@ module _ (order : Order) (clock : ℕ → Stamps) (old : Rack) (first : FirstTur
           rw (first .two .takes terminal, own)
           (subst (λ (any : Outcome).
           IsIdle (any .card)
-          × SameWords order (old .desk) ram (order .second) terminal (any .card))
+          × SameWords order (old .desk) ram (order .second) terminal (any .card)
+          × ChangesOnly (order .second) terminal (any .card))
           (sym quiet) (
             took .idle,
             subst (λ (any : Card).
                 SameWords order (old .desk) ram (order .second) any (behindFirst any .card))
                 (sym is) same-sent,
+            took .kept,
           ))
       serve terminal only (received strange own took) =
-          rw (first .two .takes terminal, strange, own) (took .idle, same-received terminal took)
+          rw (first .two .takes terminal, strange, own) (took .idle, same-received terminal took, took .kept)
       serve terminal only (stayed strange strange-first quiet) =
           rw (first .two .takes terminal, strange, strange-first)
           (ap (λ (any : Outcome). any .card) quiet)
