@@ -1,10 +1,11 @@
 -- The orders of the table of formats beside what their commands ask of a terminal: an order of one
 -- command, and the two commands of a transfer. Assumes nothing.
-use mathlib.Core.Path.{_≡_, refl, ap, sym}
+use mathlib.Core.Path.{_≡_, refl, ap, sym, _∙_}
 use mathlib.Core.Logic.{_≢_}
 use mathlib.Core.Bool.{true, not, cond}
 use Prim.Native.Nat.{ℕ}
 use lib.Dec.{eqb}
+use Rattle.rules.proofs.Clash.{clash}
 use Rattle.bus.specs.declared.kind.Kind.the-variants.{Transmit}
 use Rattle.bus.specs.Command.{wordsOf}
 use Rattle.bus.specs.Kind.{kindOf}
@@ -18,6 +19,7 @@ use Rattle.formats.specs.declared.row.Row.the-variants.{
   ModeWithWord,
   ModeForWord,
 }
+use Rattle.formats.specs.Row.{formatOf}
 use Rattle.exchange.specs.declared.order.Order.{Order}
 use Rattle.exchange.specs.Order.{askingBy, askingIn, formatFor}
 use Rattle.rack.specs.Asked.{RowOf, FitTransfer, FitRow, FitOrder}
@@ -59,6 +61,13 @@ alone-columns order other fit =
       reply = rw (is-alone .asks, ← fit .broadcast) (table .reply);
       status = rw (is-alone .asks, ← fit .broadcast) (table .status);
     }
+
+-- row 3 has none to take
+pub alone-takes-nothing : (order : Order) → FitOrder order → order .row ≡ ModeAlone
+    → askedOf (order .first) .takes ≡ 0
+unfolding formatFor formatOf
+alone-takes-nothing order fit is =
+    sym (alone-columns order (λ between. clash (cc)) fit .behind) ∙ rw is
 
 -- ---- the two commands of a transfer
 
