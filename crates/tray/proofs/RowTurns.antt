@@ -4,7 +4,7 @@
 use mathlib.Core.Path.{_≡_, refl, sym, ap, subst, _∙_}
 use mathlib.Core.Logic.{_≢_}
 use mathlib.Core.Bool.{Bool, true}
-use mathlib.Core.List.{List, [], _∷_, map}
+use mathlib.Core.List.{List, [], map}
 use Prim.Native.Nat.{ℕ, _+_, _-_, _*_, _≤_, _<_, _%_, _^_}
 use native.Mathlib.Omega.{arith}
 use Rattle.bus.specs.declared.word.Word.{Word}
@@ -15,14 +15,13 @@ use Rattle.message.proofs.WantsLaws.{wanting-more}
 use Rattle.terminal.specs.declared.state.Core.{Core}
 use Rattle.terminal.specs.State.{Card, cardOf}
 use Rattle.terminal.specs.Event.{word}
-use Rattle.terminal.specs.Row.{withTaken, rowStored}
+use Rattle.terminal.specs.Row.{withTaken}
 use Rattle.terminal.specs.Machine.{step, run}
 use Rattle.terminal.proofs.RowWords.{row-is-words}
 use Rattle.terminal.proofs.SilentLaws.{words-are-silent}
 use Rattle.recording.specs.declared.seen.Seen.{Seen}
 use Rattle.recording.specs.Value.{valuedAt}
 use Rattle.recording.proofs.FoundLaws.{found-is-read}
-use Rattle.pieces.specs.LastLine.{counted}
 use Rattle.rows.specs.declared.Row.{Row}
 use Rattle.rows.specs.declared.Taken.{Taken}
 use Rattle.rows.specs.Row.{marksOn, wordIn, wordsOf, RowLeft, rowLeft, rowTaken}
@@ -34,7 +33,6 @@ use Rattle.rows.proofs.RowTurns.{nothing-taken, row-is-turns}
 use Rattle.tray.specs.declared.window.Passed.{Passed as HeldPassed}
 use Rattle.tray.specs.Happening.{happeningOf, happened}
 use Rattle.tray.specs.Run.{Tray, taking, takingLine, metBy, trayCourse}
-use Rattle.tray.specs.AsCoded.Held.{trayOf}
 use Rattle.tray.specs.AsCoded.Row.{rowTo, passedAfter, RowTaken}
 
 -- ---- a tray's run hears words
