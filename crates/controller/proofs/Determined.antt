@@ -22,8 +22,8 @@ use Rattle.controller.proofs.state.Controller.hear_word.Kinds as hear-w
 use Rattle.controller.proofs.state.Controller.hear_word.Reads as hear-word-reads
 use Rattle.controller.proofs.state.Controller.hear_silence.Kinds as hear-silence-kinds
 use Rattle.controller.proofs.state.Controller.hear_silence.Reads as hear-silence-reads
-use Rattle.controller.proofs.state.Controller.words_due.Kinds as words-due-kinds
-use Rattle.controller.proofs.state.Controller.words_due.Reads as words-due-reads
+use Rattle.controller.proofs.state.Controller.words_wanted.Kinds as words-wanted-kinds
+use Rattle.controller.proofs.state.Controller.words_wanted.Reads as words-wanted-reads
 use Rattle.controller.proofs.state.Controller.with_taken.Kinds as with-taken-kinds
 use Rattle.controller.proofs.state.Controller.with_taken.Reads as with-taken-reads
 use Rattle.controller.proofs.state.Controller.word.Kinds as word-kinds
@@ -72,8 +72,8 @@ pub hear-silence :
     Determined 1 hear-silence-kinds.ps hear-silence-kinds.r hear-silence-reads.Post
 hear-silence κs arguments result result′ exit exit′ is is′ = ap heardBy (same is is′)
 
-pub words-due : Determined 0 words-due-kinds.ps words-due-kinds.r words-due-reads.Post
-words-due κs arguments result result′ exit exit′ = same
+pub words-wanted : Determined 0 words-wanted-kinds.ps words-wanted-kinds.r words-wanted-reads.Post
+words-wanted κs arguments result result′ exit exit′ = same
 
 pub with-taken : Determined 0 with-taken-kinds.ps with-taken-kinds.r with-taken-reads.Post
 with-taken κs arguments result result′ exit exit′ = same

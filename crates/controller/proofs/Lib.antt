@@ -1,8 +1,8 @@
 -- The mathematics of the controller.
 --     StartLaws      how the code comes to each start
 --     HeardLaws      .. to what a word or a silence does
---     RowLaws        .. to the data words that are due
---     RowWords       a data word that is due is stored; a row of them is as many words
+--     RowLaws        .. to the data words that are wanted
+--     RowWords       a data word that is wanted is stored; a row of them is as many words
 --     ActionLaws     .. to each answer of an action
 --     WrittenLaws    which cells are written, and which are kept
 --     Determined     each public contract allows one outcome alone

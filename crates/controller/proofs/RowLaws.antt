@@ -18,27 +18,27 @@ use Rattle.controller.specs.declared.state.OpenMessage.{OpenMessage}
 use Rattle.controller.specs.declared.state.Message.{Message}
 use Rattle.controller.specs.declared.state.Message.the-variants.{Idle, Open}
 use Rattle.controller.specs.declared.state.Controller.{Controller}
-use Rattle.controller.specs.declared.row.Due.{Due}
-use Rattle.controller.specs.declared.row.Due.the-variants.{Nothing, Words}
+use Rattle.controller.specs.declared.row.Wanted.{Wanted}
+use Rattle.controller.specs.declared.row.Wanted.the-variants.{Nothing, Words}
 use Rattle.controller.specs.Control.{blockIn, lineIn}
 use Rattle.controller.specs.State.{withMessage}
-use Rattle.controller.specs.Row.{dueAt, wordsDue, takenOf, withTaken}
+use Rattle.controller.specs.Row.{wantedAt, wordsWanted, messageWith, withTaken}
 
 module _ (state : Controller) where
-  pub idle-due : state .message ≡ Idle → Nothing ≡ wordsDue state
-  unfolding wordsDue
-  idle-due is = rw is
+  pub idle-wants : state .message ≡ Idle → Nothing ≡ wordsWanted state
+  unfolding wordsWanted
+  idle-wants is = rw is
 
   pub idle-taken : (taken : ℕ) → state .message ≡ Idle → state ≡ withTaken taken state
   unfolding withTaken withMessage
   idle-taken taken is =
       ap (λ (held : Message). withMessage held state) is
-      ∙ ap (λ (held : Message). withMessage (takenOf taken held) state) (sym is)
+      ∙ ap (λ (held : Message). withMessage (messageWith taken held) state) (sym is)
 
   module _ (message : OpenMessage) (is-open : state .message ≡ Open message) where
-    pub given-due : message .progress ≡ Given → Nothing ≡ wordsDue state
-    unfolding wordsDue
-    given-due is = rw (is-open, is)
+    pub given-wants : message .progress ≡ Given → Nothing ≡ wordsWanted state
+    unfolding wordsWanted
+    given-wants is = rw (is-open, is)
 
     pub given-taken : (taken : ℕ) → message .progress ≡ Given → state ≡ withTaken taken state
     unfolding withTaken withMessage
@@ -60,11 +60,11 @@ module _ (state : Controller) where
       unfolding withTaken withMessage
       back-taken taken new is-new = rw (is-open, is-back) is-new
 
-      pub back-due : (format : Format) (due : Due) → format ≡ formatFor (message .order)
-          → due ≡ dueAt (so-far .stage) (state .control) format (so-far .taken)
-          → due ≡ wordsDue state
-      unfolding wordsDue
-      back-due format due is-format is-due = rw (is-open, is-back, ← is-format) is-due
+      pub back-wants : (format : Format) (wanted : Wanted) → format ≡ formatFor (message .order)
+          → wanted ≡ wantedAt (so-far .stage) (state .control) format (so-far .taken)
+          → wanted ≡ wordsWanted state
+      unfolding wordsWanted
+      back-wants format wanted is-format is-wanted = rw (is-open, is-back, ← is-format) is-wanted
 
 -- no word of a reply stands above the highest cell
 pub reply-in-cells : (order : Order) (format : Format) → format ≡ formatFor order
@@ -74,33 +74,33 @@ reply-in-cells order format is = rw is (last-at-most order)
 -- ---- behind a status
 
 module _ (control : ℕ) (format : Format) (so-far : Exchange) where
-  pub due-before : so-far .stage ≡ Awaiting
-      → Nothing ≡ dueAt (so-far .stage) control format (so-far .taken)
-  due-before is = rw is
+  pub wants-before : so-far .stage ≡ Awaiting
+      → Nothing ≡ wantedAt (so-far .stage) control format (so-far .taken)
+  wants-before is = rw is
 
-  pub due-last : so-far .stage ≡ AwaitingLast
-      → Nothing ≡ dueAt (so-far .stage) control format (so-far .taken)
-  due-last is = rw is
+  pub wants-last : so-far .stage ≡ AwaitingLast
+      → Nothing ≡ wantedAt (so-far .stage) control format (so-far .taken)
+  wants-last is = rw is
 
-  pub due-ended : so-far .stage ≡ Ended
-      → Nothing ≡ dueAt (so-far .stage) control format (so-far .taken)
-  due-ended is = rw is
+  pub wants-ended : so-far .stage ≡ Ended
+      → Nothing ≡ wantedAt (so-far .stage) control format (so-far .taken)
+  wants-ended is = rw is
 
   module _ (is : so-far .stage ≡ Reply) where
-    pub due-none : format .reply ≤ so-far .taken
-        → Nothing ≡ dueAt (so-far .stage) control format (so-far .taken)
-    due-none all = rw (is, le-ltb (so-far .taken) (format .reply) all)
+    pub wants-none : format .reply ≤ so-far .taken
+        → Nothing ≡ wantedAt (so-far .stage) control format (so-far .taken)
+    wants-none all = rw (is, le-ltb (so-far .taken) (format .reply) all)
 
-    pub due-words : (block : Block) (line : Bool) → so-far .taken < format .reply
+    pub wants-words : (block : Block) (line : Bool) → so-far .taken < format .reply
         → block ≡ blockIn control → line ≡ lineIn control
         → Words block (format .given + 1 + so-far .taken) (format .given + 1 + format .reply) line
         (so-far .taken)
-        ≡ dueAt (so-far .stage) control format (so-far .taken)
-    due-words block line more is-block is-line =
+        ≡ wantedAt (so-far .stage) control format (so-far .taken)
+    wants-words block line more is-block is-line =
         rw (is, lt-ltb (so-far .taken) (format .reply) more, is-block, is-line)
 
-pub ruleset dues-at = (due-before, due-last, due-ended, due-none, due-words)
+pub ruleset wanted-at = (wants-before, wants-last, wants-ended, wants-none, wants-words)
 
-pub ruleset dues = (idle-due, given-due, back-due, reply-in-cells)
+pub ruleset words-wanted = (idle-wants, given-wants, back-wants, reply-in-cells)
 
 pub ruleset takens = (idle-taken, given-taken, back-taken)

@@ -1,4 +1,4 @@
--- Data words that are due: one is stored (`word-is-stored`), and a row of them, stored at once, is
+-- Data words that are wanted: one is stored (`word-is-stored`), and a row of them, stored at once, is
 -- as many words heard one after the other (`row-is-words`). Assumes nothing.
 use mathlib.Core.Path.{_≡_, refl, sym, ap, _∙_}
 use mathlib.Core.Bool.{Bool, true, false, cond}
@@ -29,11 +29,11 @@ use Rattle.controller.specs.declared.state.Progress.the-variants.{Given,
 use Rattle.controller.specs.declared.state.Message.{Message}
 use Rattle.controller.specs.declared.state.Message.the-variants.{Idle, Open}
 use Rattle.controller.specs.declared.state.Controller.{Controller}
-use Rattle.controller.specs.declared.row.Due.the-variants.{Nothing, Words}
+use Rattle.controller.specs.declared.row.Wanted.the-variants.{Nothing, Words}
 use Rattle.controller.specs.Control.{blockIn, lineIn}
 use Rattle.controller.specs.State.{Desk, desk, withMessage}
 use Rattle.controller.specs.Heard.{Heard, heardAs, wordDone, wordMet, wordStep, wordsStep}
-use Rattle.controller.specs.Row.{dueAt, dueIn, dueOf, wordsDue, takenOf, withTaken, rowStored}
+use Rattle.controller.specs.Row.{wantedAt, wantedIn, wantedOf, wordsWanted, messageWith, withTaken, rowStored}
 
 module _ (state : Controller) (order : Order) (mark : Bool) where
   -- in the reply to an order, with so many data words in
@@ -50,7 +50,7 @@ module _ (state : Controller) (order : Order) (mark : Bool) where
   abbrev block : Block
   block = blockIn (state .control)
 
-  -- a data word that is due is stored
+  -- a data word that is wanted is stored
   pub word-is-stored : (heard : Word) (taken : ℕ) (ram : List ℕ) → DataWord line heard
       → taken < formatFor order .reply
       → wordStep heard (replyAt taken ram)
@@ -67,7 +67,7 @@ module _ (state : Controller) (order : Order) (mark : Bool) where
         lt-leb (formatFor order .reply) taken more,
       )
 
-  -- a row of data words, as many as are due at the most
+  -- a row of data words, as many as are wanted at the most
   pub row-is-words : (row : List Word) (taken : ℕ) (ram : List ℕ) → DataWords line row
       → taken + length row ≤ formatFor order .reply
       → wordsStep row (replyAt taken ram)
@@ -86,10 +86,10 @@ module _ (state : Controller) (order : Order) (mark : Bool) where
       ∙ row-is-words row (taken + 1) stored rest (omega (arith, few))
       ∙ rw (next, cell)
 
--- ---- the words that are due
+-- ---- the words that are wanted
 
 -- what the code is told: the message is in a reply, some of whose words are missing
-pub record DueTold (state : Controller) (block : Block) (cell end : ℕ) (on : Bool) (taken : ℕ)
+pub record WantedTold (state : Controller) (block : Block) (cell end : ℕ) (on : Bool) (taken : ℕ)
     : Type 0 where
   pub order : Order
   pub mark : Bool
@@ -103,14 +103,14 @@ pub record DueTold (state : Controller) (block : Block) (cell end : ℕ) (on : B
 
 module _ (state : Controller) (block : Block) (cell end : ℕ) (on : Bool) (taken : ℕ) where
   abbrev Told : Type 0
-  Told = DueTold state block cell end on taken
+  Told = WantedTold state block cell end on taken
 
   abbrev opened : Order → Exchange → Message
   opened order so-far = Open (record { order = order; progress = Back so-far })
 
   in-reply : (order : Order) (so-far : Exchange)
       → state .message ≡ opened order so-far → so-far .stage ≡ Reply
-      → dueAt Reply (state .control) (formatFor order) (so-far .taken)
+      → wantedAt Reply (state .control) (formatFor order) (so-far .taken)
       ≡ Words block cell end on taken
       → Told
   in-reply order so-far is-open is-stage =
@@ -141,7 +141,7 @@ module _ (state : Controller) (block : Block) (cell end : ℕ) (on : Bool) (take
 
   in-stage : (order : Order) (so-far : Exchange) → state .message ≡ opened order so-far
       → (stage : Stage) → so-far .stage ≡ stage
-      → dueAt stage (state .control) (formatFor order) (so-far .taken)
+      → wantedAt stage (state .control) (formatFor order) (so-far .taken)
       ≡ Words block cell end on taken
       → Told
   in-stage order so-far is-open Awaiting is same = absurd (clash (cc))
@@ -150,11 +150,11 @@ module _ (state : Controller) (block : Block) (cell end : ℕ) (on : Bool) (take
   in-stage order so-far is-open Ended is same = absurd (clash (cc))
 
   in-message : (message : Message) → state .message ≡ message
-      → dueOf message (state .control) ≡ Words block cell end on taken → Told
+      → wantedOf message (state .control) ≡ Words block cell end on taken → Told
   in-message Idle is same = absurd (clash (cc))
   in-message (Open message) is same = go (message .progress) refl (refl ∙ same) where
     go : (progress : Progress) → message .progress ≡ progress
-        → dueIn progress (message .order) (state .control) ≡ Words block cell end on taken
+        → wantedIn progress (message .order) (state .control) ≡ Words block cell end on taken
         → Told
     go Given progressed same = absurd (clash (cc))
     go (Back so-far) progressed same =
@@ -163,9 +163,9 @@ module _ (state : Controller) (block : Block) (cell end : ℕ) (on : Bool) (take
         Open (record { order = message .order; progress = any })) progressed)
         (so-far .stage) refl same
 
-  pub due-tells : Words block cell end on taken ≡ wordsDue state → Told
-  unfolding wordsDue
-  due-tells is = in-message (state .message) refl (sym is)
+  pub wanted-tells : Words block cell end on taken ≡ wordsWanted state → Told
+  unfolding wordsWanted
+  wanted-tells is = in-message (state .message) refl (sym is)
 
 -- ---- so many are wanted
 
@@ -211,7 +211,7 @@ module _ (on : Bool) (more : ℕ) (old : Desk) (heard : Word)
       }
 
 module _ (state : Controller) (block : Block) (cell end : ℕ) (on : Bool) (taken : ℕ)
-    (told : DueTold state block cell end on taken) (ram : List ℕ) where
+    (told : WantedTold state block cell end on taken) (ram : List ℕ) where
   told-reply : desk state ram ≡ replyAt state (told .order) (told .mark) taken ram
   unfolding withMessage
   told-reply = ap (λ (held : Message). desk (withMessage held state) ram) (told .is-open)
@@ -245,12 +245,12 @@ module _ (state : Controller) (block : Block) (cell end : ℕ) (on : Bool) (take
       → desk (withTaken count state) ram ≡ replyAt state (told .order) (told .mark) count ram
   unfolding withTaken
   taken-so count =
-      ap (λ (held : Message). desk (withMessage (takenOf count held) state) ram) (told .is-open)
+      ap (λ (held : Message). desk (withMessage (messageWith count held) state) ram) (told .is-open)
 
-  -- a row of the words that are due, stored at once
-  pub due-row-is-words : (row : List Word) → DataWords on row → length row ≤ end - cell
+  -- a row of the words that are wanted, stored at once
+  pub wanted-row-is-words : (row : List Word) → DataWords on row → length row ≤ end - cell
       → rowStored row cell taken (desk state ram) ≡ wordsStep row (desk state ram)
-  due-row-is-words row are few =
+  wanted-row-is-words row are few =
       ap (λ (any : Desk). desk (any .state) (withCells ram (blockIn (state .control)) cell
       (valuesOf row))) (taken-so (taken + length row))
       ∙ ap (λ (any : ℕ). replyAt state (told .order) (told .mark) (taken + length row)

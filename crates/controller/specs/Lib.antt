@@ -3,7 +3,7 @@
 --     State      what the controller holds, and setup
 --     Start      what is given to the bus
 --     Heard      words and silences that come back, and the end of a message
---     Row        the data words that are due, and a row of them
+--     Row        the data words that are wanted, and a row of them
 --     Written    which cells it writes
 --     Given      the words to give, as a part of the memory
 --     Actions    the same with their refusals

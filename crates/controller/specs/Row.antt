@@ -1,4 +1,4 @@
--- The data words of a reply: which are due, and a row of them, stored at once. No rule asks for
+-- The data words of a reply: which are wanted, and a row of them, stored at once. No rule asks for
 -- rows: a row is as many words heard (`proofs/RowWords`). Definitions only. Assumes nothing.
 use mathlib.Core.Bool.{cond}
 use mathlib.Core.List.{List}
@@ -20,48 +20,48 @@ use Rattle.controller.specs.declared.state.Progress.the-variants.{Given,
 use Rattle.controller.specs.declared.state.Message.{Message}
 use Rattle.controller.specs.declared.state.Message.the-variants.{Idle, Open}
 use Rattle.controller.specs.declared.state.Controller.{Controller}
-use Rattle.controller.specs.declared.row.Due.{Due}
-use Rattle.controller.specs.declared.row.Due.the-variants.{Nothing, Words}
+use Rattle.controller.specs.declared.row.Wanted.{Wanted}
+use Rattle.controller.specs.declared.row.Wanted.the-variants.{Nothing, Words}
 use Rattle.controller.specs.Control.{blockIn, lineIn}
 use Rattle.controller.specs.State.{Desk, desk, withMessage}
 
--- ---- the words that are due
+-- ---- the words that are wanted
 
 -- behind a status: those of its reply that are not in
-abbrev pub dueAt : Stage → ℕ → Format → ℕ → Due
-dueAt Awaiting control format taken = Nothing
-dueAt Reply control format taken =
+abbrev pub wantedAt : Stage → ℕ → Format → ℕ → Wanted
+wantedAt Awaiting control format taken = Nothing
+wantedAt Reply control format taken =
     cond (ltb taken (format .reply))
     (Words (blockIn control) (replyCell format + taken) (lastCell format) (lineIn control) taken)
     Nothing
-dueAt AwaitingLast control format taken = Nothing
-dueAt Ended control format taken = Nothing
+wantedAt AwaitingLast control format taken = Nothing
+wantedAt Ended control format taken = Nothing
 
-abbrev pub dueIn : Progress → Order → ℕ → Due
-dueIn Given order control = Nothing
-dueIn (Back so-far) order control =
-    dueAt (so-far .stage) control (formatFor order) (so-far .taken)
+abbrev pub wantedIn : Progress → Order → ℕ → Wanted
+wantedIn Given order control = Nothing
+wantedIn (Back so-far) order control =
+    wantedAt (so-far .stage) control (formatFor order) (so-far .taken)
 
-abbrev pub dueOf : Message → ℕ → Due
-dueOf Idle control = Nothing
-dueOf (Open message) control = dueIn (message .progress) (message .order) control
+abbrev pub wantedOf : Message → ℕ → Wanted
+wantedOf Idle control = Nothing
+wantedOf (Open message) control = wantedIn (message .progress) (message .order) control
 
-unfoldable pub wordsDue : Controller → Due
-wordsDue state = dueOf (state .message) (state .control)
+unfoldable pub wordsWanted : Controller → Wanted
+wordsWanted state = wantedOf (state .message) (state .control)
 
 -- ---- some of them are in
 
-abbrev pub takenIn : ℕ → Progress → Progress
-takenIn taken Given = Given
-takenIn taken (Back so-far) = Back (exchangeOf (so-far .stage) taken (so-far .mark))
+abbrev pub progressWith : ℕ → Progress → Progress
+progressWith taken Given = Given
+progressWith taken (Back so-far) = Back (exchangeOf (so-far .stage) taken (so-far .mark))
 
-abbrev pub takenOf : ℕ → Message → Message
-takenOf taken Idle = Idle
-takenOf taken (Open message) =
-    Open (record { order = message .order; progress = takenIn taken (message .progress) })
+abbrev pub messageWith : ℕ → Message → Message
+messageWith taken Idle = Idle
+messageWith taken (Open message) =
+    Open (record { order = message .order; progress = progressWith taken (message .progress) })
 
 unfoldable pub withTaken : ℕ → Controller → Controller
-withTaken taken state = withMessage (takenOf taken (state .message)) state
+withTaken taken state = withMessage (messageWith taken (state .message)) state
 
 -- a row of data words is stored from a cell on, so many being in before it
 abbrev pub rowStored : List Word → ℕ → ℕ → Desk → Desk

@@ -1,9 +1,9 @@
-// The data words of a reply, which come one after the other: where those that are due go, and the
+// The data words of a reply, which come one after the other: where those that are wanted go, and the
 // controller behind some of them, which are then stored many at a time.
 ghost use mathlib.Core.Path.{_≡_};
 ghost use Prim.Native.Nat.{_≤_};
 ghost use Rattle.formats.specs.Row.{lastCell, highestCell};
-ghost use Rattle.controller.specs.Row.{dueAt, wordsDue, withTaken};
+ghost use Rattle.controller.specs.Row.{wantedAt, wordsWanted, withTaken};
 use crate::control;
 use crate::state::Controller;
 use crate::state::Message;
@@ -14,7 +14,7 @@ use exchange::state::Stage;
 use formats::row::Format;
 
 // The data words that the open message waits for.
-pub enum Due {
+pub enum Wanted {
     Nothing,
     Words {
         block: Block,
@@ -29,18 +29,18 @@ pub enum Due {
 }
 
 // Behind a status: the words of its reply that are not in.
-fn due_at(control: u16, format: Format, exchange: Exchange) -> Due
+fn wanted_at(control: u16, format: Format, exchange: Exchange) -> Wanted
     requires { ⌜ lastCell format ≤ highestCell ⌝ }
-    ensures { λ due. ⌜ due ≡ dueAt (exchange .stage) control format (exchange .taken) ⌝ }
+    ensures { λ wanted. ⌜ wanted ≡ wantedAt (exchange .stage) control format (exchange .taken) ⌝ }
 {
     let stage = exchange.stage;
     match stage {
-        Stage::Awaiting => Due::Nothing,
+        Stage::Awaiting => Wanted::Nothing,
         Stage::Reply => {
             if format.reply <= exchange.taken {
-                return Due::Nothing;
+                return Wanted::Nothing;
             }
-            Due::Words {
+            Wanted::Words {
                 block: control::block(control),
                 cell: format.given + 1 + exchange.taken,
                 end: format.given + 1 + format.reply,
@@ -48,25 +48,25 @@ fn due_at(control: u16, format: Format, exchange: Exchange) -> Due
                 taken: exchange.taken,
             }
         }
-        Stage::AwaitingLast => Due::Nothing,
-        Stage::Ended => Due::Nothing,
+        Stage::AwaitingLast => Wanted::Nothing,
+        Stage::Ended => Wanted::Nothing,
     }
 }
 
 impl Controller {
-    pub fn words_due(self) -> Due
-        ensures { λ due. ⌜ due ≡ wordsDue self ⌝ }
+    pub fn words_wanted(self) -> Wanted
+        ensures { λ wanted. ⌜ wanted ≡ wordsWanted self ⌝ }
     {
         let held = self.message;
         let Message::Open(message) = held else {
-            return Due::Nothing;
+            return Wanted::Nothing;
         };
         let progress = message.progress;
         let Progress::Back(exchange) = progress else {
-            return Due::Nothing;
+            return Wanted::Nothing;
         };
         let order = message.order;
-        due_at(self.control, order.format(), exchange)
+        wanted_at(self.control, order.format(), exchange)
     }
 
     // So many data words of the reply are in, where one is open.

@@ -1,5 +1,5 @@
 -- What `take_row` leaves: the turns that are left lead where all of them led (`row-taken`), by the
--- law of every row: a data word that is due is a field that prints nothing, and the controller
+-- law of every row: a data word that is wanted is a field that prints nothing, and the controller
 -- stores a row as so many words. Assumes nothing.
 use mathlib.Core.Path.{_≡_, refl, sym, ap, subst, _∙_}
 use mathlib.Core.Logic.{_≢_}
@@ -22,24 +22,24 @@ use Rattle.recording.specs.AsCoded.Found.{wordFound}
 use Rattle.recording.specs.Value.{valuedAt}
 use Rattle.recording.proofs.FoundLaws.{found-is-read, found-whole, found-tag}
 use Rattle.controller.specs.declared.state.Controller.{Controller}
-use Rattle.controller.specs.declared.row.Due.{Due}
-use Rattle.controller.specs.declared.row.Due.the-variants.{Words}
+use Rattle.controller.specs.declared.row.Wanted.{Wanted}
+use Rattle.controller.specs.declared.row.Wanted.the-variants.{Words}
 use Rattle.controller.specs.State.{Desk, desk}
 use Rattle.controller.specs.Heard.{wordsStep}
-use Rattle.controller.specs.Row.{wordsDue, withTaken}
+use Rattle.controller.specs.Row.{wordsWanted, withTaken}
 use Rattle.controller.proofs.RowWords.{
-  DueTold,
-  due-tells,
+  WantedTold,
+  wanted-tells,
   WantsWords,
   heard-silently,
   still-wants,
   told-wants,
   told-fits,
-  due-row-is-words,
+  wanted-row-is-words,
 }
 use Rattle.rows.specs.declared.Row.{Row}
 use Rattle.rows.specs.declared.Taken.{Taken}
-use Rattle.rows.specs.Row.{marksOn, wordIn, wordsOf, RowLeft, rowLeft, rowTaken}
+use Rattle.rows.specs.Row.{marksOn, wordThere, wordsTaken, RowLeft, rowLeft, rowTaken}
 use Rattle.rows.specs.Turns.{Hearing}
 use Rattle.rows.proofs.FoundLaws.{marks-few, found-next, is-data-word, found-are-data}
 use Rattle.rows.proofs.TakenLaws.{found-few}
@@ -90,7 +90,7 @@ desk-hears seen after-setup =
       is-met = λ line more old fields offset window at value next wants is.
           let ten : next - at ≡ 10 = omega (arith, found-next window line at value next is) in
           let silent =
-          heard-silently line more old (wordIn window line at value) wants
+          heard-silently line more old (wordThere window line at value) wants
           (is-data-word line value _) in
           rw (word-is-read window line at value next seen after-setup is, silent, ten);
       wants-on = λ line more old heard wants is. still-wants line more old heard wants is;
@@ -122,9 +122,9 @@ row-after old before taken controller fields offset is-controller is-fields is-o
 
 -- ---- a row is as many turns
 
-module _ (old : HeldPassed) (window ram ram′ : List ℕ) (room most : ℕ) (due : Due) (block : Block)
+module _ (old : HeldPassed) (window ram ram′ : List ℕ) (room most : ℕ) (wanted : Wanted) (block : Block)
     (cell end : ℕ) (line : Bool) (before : ℕ) (taken : Taken)
-    (is-due : due ≡ wordsDue (old .run .controller)) (is : due ≡ Words block cell end line before)
+    (is-wanted : wanted ≡ wordsWanted (old .run .controller)) (is : wanted ≡ Words block cell end line before)
     (is-taken : rowLeft taken ram′
     ≡ rowTaken window (old .at) line (old .run .seen .setup) room most
     (record { block = block; cell = cell; end = end }) ram) where
@@ -132,10 +132,10 @@ module _ (old : HeldPassed) (window ram ram′ : List ℕ) (room most : ℕ) (du
   row = record { block = block; cell = cell; end = end }
 
   abbrev found : List Word
-  found = wordsOf window (old .at) line row
+  found = wordsTaken window (old .at) line row
 
-  told : DueTold (old .run .controller) block cell end line before
-  told = due-tells (old .run .controller) block cell end line before (sym is ∙ is-due)
+  told : WantedTold (old .run .controller) block cell end line before
+  told = wanted-tells (old .run .controller) block cell end line before (sym is ∙ is-wanted)
 
   -- where no word was found nothing has changed
   pub none-taken : taken .words ≡ 0 → RowTaken window room most old ram most old ram′
@@ -168,7 +168,7 @@ module _ (old : HeldPassed) (window ram ram′ : List ℕ) (room most : ℕ) (du
         (any .ram)) (tells .is-row)
         ∙ ap (λ (any : Block). desk (withTaken (before + length found) (old .run .controller))
         (withCells ram any cell (valuesOf found))) (told .same-block)
-        ∙ due-row-is-words (old .run .controller) block cell end line before told ram found
+        ∙ wanted-row-is-words (old .run .controller) block cell end line before told ram found
         (found-are-data window line (end - cell) (old .at)) (found-few window line row (old .at))
 
     behind-row : RowTaken window room most old ram (taken .left) (passedAfter old before taken) ram′

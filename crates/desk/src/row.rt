@@ -5,7 +5,7 @@ ghost use Prim.Native.Nat.{_+_, _≤_};
 ghost use Rattle.desk.specs.AsCoded.Row.{passedAfter, RowTaken};
 use crate::run::Run;
 use crate::window::Passed;
-use controller::row::Due;
+use controller::row::Wanted;
 use rows::Row;
 use rows::Taken;
 use std::num;
@@ -39,7 +39,7 @@ fn after_row(passed: Passed, before: u16, taken: Taken) -> Passed
     }
 }
 
-// The data words that stand next and are due. Each is a turn, but touches a few numbers alone.
+// The data words that stand next and are wanted. Each is a turn, but touches a few numbers alone.
 pub(crate) fn take_row(
     passed: Passed,
     ram: &mut [u16],
@@ -52,14 +52,14 @@ pub(crate) fn take_row(
 {
     let run = passed.run;
     let controller = run.controller;
-    let due = controller.words_due();
-    let Due::Words {
+    let wanted = controller.words_wanted();
+    let Wanted::Words {
         block,
         cell,
         end,
         line,
         taken,
-    } = due
+    } = wanted
     else {
         return Rowed {
             passed: passed,

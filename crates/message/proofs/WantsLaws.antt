@@ -1,5 +1,5 @@
--- How many words an open message takes and stores: stage by stage, as the code tells it, 32 at the
--- most, and what holds while one more is wanted. Assumes nothing.
+-- How many words an open message takes and stores: stage by stage, as the code tells it, and what
+-- holds while one more is wanted. Assumes nothing.
 use mathlib.Core.Path.{_≡_, refl}
 use mathlib.Core.Bool.{Bool, true, false, cond}
 use Prim.Native.Nat.{ℕ, _≤_, _<_}
@@ -16,7 +16,6 @@ use Rattle.message.specs.declared.state.OpenMessage.{OpenMessage}
 use Rattle.message.specs.Message.{further}
 use Rattle.message.specs.Asked.{asks, keepsBack}
 use Rattle.message.specs.Wants.{wantsIn, wants}
-use Rattle.message.proofs.AskedBounds.{takes-at-most}
 
 module _ (message : OpenMessage) where
   module _ (asked : Asked) (is : asked ≡ asks message) where
@@ -43,18 +42,6 @@ pub ruleset wanting = (
   wants-before-status,
   wants-skipping,
 )
-
-wants-in-at-most : (stage : Stage) (message : OpenMessage) → wantsIn stage message ≤ 32
-wants-in-at-most Data message = go (keepsBack (asks message) message) where
-  go : (kept : Bool) → cond kept 0 (asks message .takes) ≤ 32
-  go true = omega arith
-  go false = takes-at-most (message .command)
-wants-in-at-most SecondCommand message = omega arith
-wants-in-at-most AwaitingStatus message = omega arith
-wants-in-at-most Skipping message = omega arith
-
-pub wants-at-most : (message : OpenMessage) → wants message ≤ 32
-wants-at-most message = wants-in-at-most (message .stage) message
 
 -- ---- a word more is wanted
 

@@ -21,10 +21,10 @@ use Rattle.rows.specs.declared.Row.{Row}
 use Rattle.rows.specs.declared.Taken.{Taken}
 use Rattle.rows.specs.Row.{
   marksOn,
-  wordIn,
+  wordThere,
   foundThen,
   wordsFound,
-  wordsOf,
+  wordsTaken,
   rowStored,
   RowLeft,
   rowLeft,
@@ -63,7 +63,7 @@ module _ {Run Machine : Type 0} {course : Course Run} {run : Machine → ℕ →
     word-is-turn : (more at : ℕ) (old : Machine) (fields offset value next : ℕ)
         → Wants line (suc more) old → wordFound window at (marksOn line) ≡ Value value next
         → turn course window last (among at old fields offset)
-        ≡ among next (hears (wordIn window line at value ∷ []) old)
+        ≡ among next (hears (wordThere window line at value ∷ []) old)
         (counted (fields + 1)) (counted (offset + 10))
     unfolding passing
     word-is-turn more at old fields offset value next wants is =
@@ -117,7 +117,7 @@ module _ {Run Machine : Type 0} {course : Course Run} {run : Machine → ℕ →
             window last (among at old fields offset)
         go shorter Nothing is none = no-word left at old fields offset (none refl)
         go shorter (Value value next) is none =
-            let heard : Word = wordIn window line at value in
+            let heard : Word = wordThere window line at value in
             let new : Machine = hears (heard ∷ []) old in
             let rest : List Word = wordsFound fuel window line next in
             let moved : next ≡ at + 10 = found-next window line at value next is in
@@ -142,13 +142,13 @@ module _ {Run Machine : Type 0} {course : Course Run} {run : Machine → ℕ →
       (is-taken : rowLeft told ram′ ≡ rowTaken window at line setup room most row ram)
       (some : told .words ≢ 0) where
     pub row-is-turns : (old new : Machine) (fields offset : ℕ)
-        → Wants line (row .end - row .cell) old → new ≡ hears (wordsOf window at line row) old
+        → Wants line (row .end - row .cell) old → new ≡ hears (wordsTaken window at line row) old
         → TurnsTaken course window room most (run old fields offset) at (told .left)
         (run new (counted (fields + told .words)) (counted (offset + 10 * told .words)))
         (told .at)
     row-is-turns old new fields offset wants is-new =
         let tells = some-taken window line setup room most at row ram told ram′ is-taken some in
-        let found : List Word = wordsOf window at line row in
+        let found : List Word = wordsTaken window at line row in
         let same : told ≡ takenAs (length found) most (rowStored window at line row ram) .taken =
         ap (λ (any : RowLeft). any .taken) (tells .is-row) in
         let as-many : told .words ≡ length found = ap (λ (any : Taken). any .words) same in

@@ -12,7 +12,7 @@ use Rattle.recording.specs.declared.words.Found.{Found}
 use Rattle.recording.specs.declared.words.Found.the-variants.{Value, Nothing}
 use Rattle.recording.specs.AsCoded.Found.{wordFound}
 use Rattle.rows.specs.declared.Row.{Row}
-use Rattle.rows.specs.Row.{marksOn, wordIn, wordsFound, Stored, stored, behind, rowStored}
+use Rattle.rows.specs.Row.{marksOn, wordThere, wordsFound, Stored, stored, behind, rowStored}
 use Rattle.rows.proofs.FoundLaws.{found-next}
 
 abbrev row : Block → ℕ → ℕ → Row
@@ -80,7 +80,7 @@ module _ (bytes : List ℕ) (line : Bool) (block : Block) (end : ℕ) where
           record {
             leads =
                 rw (is-stored, same-next)
-                (sym (behind-one block end cell at ram (wordIn bytes line at value)
+                (sym (behind-one block end cell at ram (wordThere bytes line at value)
                 (wordsFound (end - (cell + 1)) bytes line (at + 10)))
                 ∙ rw (fewer, at-marks, is, same-next) at (so-far .leads));
             ram-as-long = long ∙ so-far .ram-as-long;

@@ -20,7 +20,7 @@ use Rattle.rows.specs.declared.Taken.{Taken}
 use Rattle.rows.specs.Row.{
   Stored,
   stored,
-  wordsOf,
+  wordsTaken,
   rowStored,
   mayTake,
   RowLeft,
@@ -58,12 +58,12 @@ able-tells row setup room most is =
     }
 
 pub found-few : (window : List ℕ) (line : Bool) (row : Row) (at : ℕ)
-    → length (wordsOf window at line row) ≤ row .end - row .cell
+    → length (wordsTaken window at line row) ≤ row .end - row .cell
 found-few window line row at = found-at-most window line (row .end - row .cell) at
 
 module _ (window : List ℕ) (line setup : Bool) (room most at : ℕ) (row : Row) (ram : List ℕ) where
   abbrev found : List Word
-  found = wordsOf window at line row
+  found = wordsTaken window at line row
 
   -- ---- how the code comes to it
 

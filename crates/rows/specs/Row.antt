@@ -25,12 +25,12 @@ abbrev pub marksOn : Bool → ℕ
 marksOn line = cond line 13 12
 
 -- the word of such a field
-abbrev pub wordIn : List ℕ → Bool → ℕ → ℕ → Word
-wordIn bytes line at value = wordOf (marksOn line) value (timeAt bytes (at + 6))
+abbrev pub wordThere : List ℕ → Bool → ℕ → ℕ → Word
+wordThere bytes line at value = wordOf (marksOn line) value (timeAt bytes (at + 6))
 
 -- a word that is found, and what is found behind it
 abbrev pub foundThen : Found → (ℕ → List Word) → List ℕ → Bool → ℕ → List Word
-foundThen (Value value next) rest bytes line at = wordIn bytes line at value ∷ rest next
+foundThen (Value value next) rest bytes line at = wordThere bytes line at value ∷ rest next
 foundThen Nothing rest bytes line at = []
 
 -- the data words on a line that stand next, so many at the most
@@ -56,11 +56,11 @@ behind words row at ram =
     (withCells ram (row .block) (row .cell) (valuesOf words))
 
 -- the words that a row takes, as many as are wanted
-abbrev pub wordsOf : List ℕ → ℕ → Bool → Row → List Word
-wordsOf bytes at line row = wordsFound (row .end - row .cell) bytes line at
+abbrev pub wordsTaken : List ℕ → ℕ → Bool → Row → List Word
+wordsTaken bytes at line row = wordsFound (row .end - row .cell) bytes line at
 
 abbrev pub rowStored : List ℕ → ℕ → Bool → Row → List ℕ → Stored
-rowStored bytes at line row ram = behind (wordsOf bytes at line row) row at ram
+rowStored bytes at line row ram = behind (wordsTaken bytes at line row) row at ram
 
 -- ---- they are taken as so many turns
 
@@ -92,5 +92,5 @@ takenAs words most new =
 unfoldable pub rowTaken : List ℕ → ℕ → Bool → Bool → ℕ → ℕ → Row → List ℕ → RowLeft
 rowTaken bytes at line setup room most row ram =
     cond (mayTake row setup room most)
-    (takenAs (length (wordsOf bytes at line row)) most (rowStored bytes at line row ram))
+    (takenAs (length (wordsTaken bytes at line row)) most (rowStored bytes at line row ram))
     (rowLeft (record { words = 0; cell = row .cell; at = at; left = most }) ram)

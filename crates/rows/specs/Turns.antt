@@ -13,7 +13,7 @@ use Rattle.pieces.specs.declared.stop.Stop.the-variants.{Going}
 use Rattle.pieces.specs.LastLine.{counted}
 use Rattle.pieces.specs.Course.{taken, Course}
 use Rattle.pieces.specs.AsCoded.Window.{Passed, turns}
-use Rattle.rows.specs.Row.{marksOn, wordIn}
+use Rattle.rows.specs.Row.{marksOn, wordThere}
 
 -- a run at a place of the window, that goes on
 abbrev pub goingAt : {Run : Type 0} → Run → ℕ → ℕ → List ℕ → Passed Run
@@ -42,7 +42,7 @@ pub record Hearing {Run Machine : Type 0} (course : Course Run) (run : Machine �
       (at value next : ℕ) → Wants line (suc more) old
       → wordFound window at (marksOn line) ≡ Value value next
       → course .meets (run old fields offset) window at
-      ≡ taken next [] (run (hears (wordIn window line at value ∷ []) old)
+      ≡ taken next [] (run (hears (wordThere window line at value ∷ []) old)
       (counted (fields + 1)) (counted (offset + 10)))
   pub wants-on : (line : Bool) (more : ℕ) (old : Machine) (heard : Word)
       → Wants line (suc more) old → DataWord line heard

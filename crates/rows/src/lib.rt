@@ -1,6 +1,6 @@
-// A row of data words, taken at once: three quarters of the fields of a busy bus are such words, and
-// each touches a few numbers and a cell alone. Here they are found in the recording and stored;
-// whose they are, the terminal's or the controller's, the caller knows.
+// A row of data words, taken at once: most fields of a busy rack are such words, and each touches a
+// few numbers and a cell alone. Here they are found in the recording and stored; whose they are,
+// the terminal's or the controller's, the caller knows.
 ghost use mathlib.Core.Path.{_≡_};
 ghost use Rattle.rows.specs.Row.{marksOn, stored, rowStored, rowLeft, rowTaken};
 use card::memory;
@@ -63,6 +63,7 @@ impl Row {
         }
         Reach { cell: cell, at: at }
     }
+
     // Takes the data words on a line that stand next, as many as are wanted: after a setup, with
     // room for a line, and where turns are left for all of them. Each is a turn.
     pub fn take(

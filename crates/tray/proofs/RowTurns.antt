@@ -24,7 +24,7 @@ use Rattle.recording.specs.Value.{valuedAt}
 use Rattle.recording.proofs.FoundLaws.{found-is-read}
 use Rattle.rows.specs.declared.Row.{Row}
 use Rattle.rows.specs.declared.Taken.{Taken}
-use Rattle.rows.specs.Row.{marksOn, wordIn, wordsOf, RowLeft, rowLeft, rowTaken}
+use Rattle.rows.specs.Row.{marksOn, wordThere, wordsTaken, RowLeft, rowLeft, rowTaken}
 use Rattle.rows.specs.Turns.{Hearing}
 use Rattle.rows.proofs.FoundLaws.{marks-few, found-next, found-are-data}
 use Rattle.rows.proofs.TakenLaws.{found-few}
@@ -59,7 +59,7 @@ tray-hears seen after-setup =
           let ten : next - at ≡ 10 = omega (arith, found-next window line at value next is) in
           rw (
             found-is-read window at (marksOn line) (marks-few line) seen after-setup is,
-            words-are-silent (wordIn window line at value) old,
+            words-are-silent (wordThere window line at value) old,
             ten,
           );
       wants-on = λ line more old heard wants is-data. refl;
@@ -101,7 +101,7 @@ module _ (old : HeldPassed) (message : OpenMessage) (window ram ram′ : List �
   row = rowTo end message
 
   abbrev found : List Word
-  found = wordsOf window (old .at) (message .line) row
+  found = wordsTaken window (old .at) (message .line) row
 
   -- where no word was found nothing has changed
   pub none-taken : taken .words ≡ 0 → RowTaken window room most old ram most old ram′

@@ -4,11 +4,11 @@ use Rattle.desk.proofs.RowTurns.{none-taken, words-fit, row-taken}
 use Rattle.desk.proofs.row.take_row.Statement.{statement}
 use Rattle.desk.proofs.row.take_row.Tie as tie
 
-words-due-requires : tie.Need-words-due-requires
-words-due-requires c κs = search needs
+words-wanted-requires : tie.Need-words-wanted-requires
+words-wanted-requires c κs = search needs
 
-enum-known-due : tie.Need-enum-known-due
-enum-known-due c = search needs
+enum-known-wanted : tie.Need-enum-known-wanted
+enum-known-wanted c = search needs
 
 enum-told : tie.Need-enum-told
 enum-told c = search needs
@@ -38,8 +38,8 @@ pub take-row-spec : {M : Type 1} → statement M
 take-row-spec =
     tie.close
     (tie.spec
-    words-due-requires
-    enum-known-due
+    words-wanted-requires
+    enum-known-wanted
     enum-told
     returns
     take-requires

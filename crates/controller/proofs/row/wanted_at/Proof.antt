@@ -1,8 +1,8 @@
--- `controller::row::due_at` meets its contract, by the stage of the answer. Assumes nothing.
+-- `controller::row::wanted_at` meets its contract, by the stage of the answer. Assumes nothing.
 use borrow.Author.Needs.{needs}
-use Rattle.controller.proofs.RowLaws.{dues-at}
-use Rattle.controller.proofs.row.due_at.Statement.{statement}
-use Rattle.controller.proofs.row.due_at.Tie as tie
+use Rattle.controller.proofs.RowLaws.{wanted-at}
+use Rattle.controller.proofs.row.wanted_at.Statement.{statement}
+use Rattle.controller.proofs.row.wanted_at.Tie as tie
 
 enum-told : tie.Need-enum-told
 enum-told c = search needs
@@ -11,7 +11,7 @@ enum-told-2 : tie.Need-enum-told-2
 enum-told-2 c = search needs
 
 returns : tie.Need-returns
-returns c = search (needs, dues-at) depth 9
+returns c = search (needs, wanted-at) depth 9
 
 block-requires : tie.Need-block-requires
 block-requires c κs = search needs
@@ -41,7 +41,7 @@ returns-2 : tie.Need-returns-2
 returns-2 c = search needs
 
 returns-3 : tie.Need-returns-3
-returns-3 c = search (needs, dues-at) depth 9
+returns-3 c = search (needs, wanted-at) depth 9
 
 returns-4 : tie.Need-returns-4
 returns-4 c = search needs
@@ -49,8 +49,8 @@ returns-4 c = search needs
 returns-5 : tie.Need-returns-5
 returns-5 c = search needs
 
-pub due-at-spec : {M : Type 1} → statement M
-due-at-spec =
+pub wanted-at-spec : {M : Type 1} → statement M
+wanted-at-spec =
     tie.close
     (tie.spec
     enum-told
