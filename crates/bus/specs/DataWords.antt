@@ -1,4 +1,5 @@
--- Data words on a line as they should come, one or a row of them. Definitions only. Assumes nothing.
+-- Data words on a line as they should come, one or a row of them. Definitions only. Assumes
+-- nothing.
 use mathlib.Core.Path.{_≡_}
 use mathlib.Core.Bool.{Bool, true, false}
 use mathlib.Core.List.{List, [], _∷_, map}

@@ -1,6 +1,7 @@
 -- What a write leaves alone, for memory of any length and so for any number of blocks.
 --     other-blocks-kept    a change that keeps to one block leaves every cell of every other
---     cell-keeps, cells-keep, service-keeps, link-keeps, words-keep    which cells each write keeps to
+--     cell-keeps, cells-keep, service-keeps, link-keeps, words-keep    which cells each write
+--                          keeps to
 --     link-moves           what stands in the table cell after `cell 63 into the table cell`
 -- Assumes nothing.
 use mathlib.Core.Path.{_≡_, refl, sym, subst, _∙_}

@@ -1,5 +1,5 @@
-// The data words of a reply, which come one after the other: where those that are wanted go, and the
-// controller behind some of them, which are then stored many at a time.
+// The data words of a reply, which come one after the other: where those that are wanted go, and
+// the controller behind some of them. So they can be stored many at a time.
 ghost use mathlib.Core.Path.{_≡_};
 ghost use Prim.Native.Nat.{_≤_};
 ghost use Rattle.formats.specs.Row.{lastCell, highestCell};

@@ -27,7 +27,7 @@ use Rattle.controller.specs.declared.row.Wanted.the-variants.{Words}
 use Rattle.controller.specs.State.{Desk, desk}
 use Rattle.controller.specs.Heard.{wordsStep}
 use Rattle.controller.specs.Row.{wordsWanted, withTaken}
-use Rattle.controller.proofs.RowWords.{
+use Rattle.controller.proofs.WantedWords.{
   WantedTold,
   wanted-tells,
   WantsWords,
@@ -122,9 +122,10 @@ row-after old before taken controller fields offset is-controller is-fields is-o
 
 -- ---- a row is as many turns
 
-module _ (old : HeldPassed) (window ram ram′ : List ℕ) (room most : ℕ) (wanted : Wanted) (block : Block)
-    (cell end : ℕ) (line : Bool) (before : ℕ) (taken : Taken)
-    (is-wanted : wanted ≡ wordsWanted (old .run .controller)) (is : wanted ≡ Words block cell end line before)
+module _ (old : HeldPassed) (window ram ram′ : List ℕ) (room most : ℕ) (wanted : Wanted)
+    (block : Block) (cell end : ℕ) (line : Bool) (before : ℕ) (taken : Taken)
+    (is-wanted : wanted ≡ wordsWanted (old .run .controller))
+    (is : wanted ≡ Words block cell end line before)
     (is-taken : rowLeft taken ram′
     ≡ rowTaken window (old .at) line (old .run .seen .setup) room most
     (record { block = block; cell = cell; end = end }) ram) where
@@ -146,7 +147,8 @@ module _ (old : HeldPassed) (window ram ram′ : List ℕ) (room most : ℕ) (wa
       rw same record { same-stop = refl; same-put = refl; turns-taken = nothing-taken }
 
   module _ (some : taken .words ≢ 0) where
-    tells : rows.SomeTaken window line (old .run .seen .setup) room most (old .at) row ram taken ram′
+    tells : rows.SomeTaken window line (old .run .seen .setup) room most (old .at) row ram taken
+        ram′
     tells =
         rows.some-taken window line (old .run .seen .setup) room most (old .at) row ram taken ram′
         is-taken some

@@ -89,8 +89,8 @@ answers = 0
 -- ---- the bus
 
 turns : ℕ
-unfolding dataWords atStation atDesk hears turnOf saidIn heard.wordsStep deskTurn turnAll turn placed
-    repliesTo
+unfolding dataWords atStation atDesk hears turnOf saidIn heard.wordsStep deskTurn turnAll turn
+    placed repliesTo
 turns = 0
 
 unfoldable pub machine : ℕ

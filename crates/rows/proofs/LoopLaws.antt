@@ -1,4 +1,5 @@
--- The loop of a call that takes rows: a row of data words, and a turn (`leads-on`). Assumes nothing.
+-- The loop of a call that takes rows: a row of data words, and a turn (`leads-on`). Assumes
+-- nothing.
 use mathlib.Core.Path.{_≡_, sym, ap, _∙_}
 use mathlib.Core.Bool.{Bool, false, not}
 use mathlib.Core.List.{List}

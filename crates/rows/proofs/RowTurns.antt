@@ -153,7 +153,8 @@ module _ {Run Machine : Type 0} {course : Course Run} {run : Machine → ℕ →
         ap (λ (any : RowLeft). any .taken) (tells .is-row) in
         let as-many : told .words ≡ length found = ap (λ (any : Taken). any .words) same in
         let few = found-few window line row at in
-        let all : length found + (most - length found) ≡ most = omega (arith, few, tells .able .many) in
+        let all : length found + (most - length found) ≡ most =
+        omega (arith, few, tells .able .many) in
         record {
           fewer = rw same (omega arith);
           some-left = λ _. rw same (omega (arith, few, tells .able .many));

@@ -1,5 +1,5 @@
--- A row of data words: those on one line, sound and joined, that stand next in some bytes, stored in
--- the cells of a block one after the other. Definitions only. Assumes nothing.
+-- A row of data words: those on one line, sound and joined, that stand next in some bytes, stored
+-- in the cells of a block one after the other. Definitions only. Assumes nothing.
 use mathlib.Core.Bool.{Bool, cond, _&&_}
 use mathlib.Core.List.{List, [], _∷_}
 use Prim.Native.Nat.{ℕ, zero, suc, _+_, _-_, _*_}

@@ -144,7 +144,8 @@ module _ (old : HeldPassed) (message : OpenMessage) (window ram ram′ : List �
         ))
         (found-are-data window (message .line) (end - message .taken) (old .at)))
 
-    behind-row : RowTaken window room most old ram (taken .left) (passedAfter old message taken) ram′
+    behind-row : RowTaken window room most old ram (taken .left) (passedAfter old message taken)
+        ram′
     unfolding passedAfter
     behind-row =
         record {

@@ -127,7 +127,8 @@ module _ (order : Order) (clock : ℕ → Stamps) (old : Rack) (first : FirstTur
             took .kept,
           ))
       serve terminal only (received strange own took) =
-          rw (first .two .takes terminal, strange, own) (took .idle, same-received terminal took, took .kept)
+          rw (first .two .takes terminal, strange, own)
+          (took .idle, same-received terminal took, took .kept)
       serve terminal only (stayed strange strange-first quiet) =
           rw (first .two .takes terminal, strange, strange-first)
           (ap (λ (any : Outcome). any .card) quiet)

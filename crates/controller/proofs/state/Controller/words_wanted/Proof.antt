@@ -1,5 +1,5 @@
--- `controller::Controller::words_wanted` meets its contract, by how far the message has come. Assumes
--- nothing.
+-- `controller::Controller::words_wanted` meets its contract, by how far the message has come.
+-- Assumes nothing.
 use borrow.Author.Needs.{needs}
 use Rattle.controller.proofs.RowLaws.{words-wanted}
 use Rattle.controller.proofs.state.Controller.words_wanted.Statement.{statement}
