@@ -76,7 +76,6 @@ module _ (message : OpenMessage) (old : Card) (value : ℕ) where
         idle = ended .idle;
         station = ended .station;
         status = ended .status;
-        long = ended .long;
         stored = ended .stored;
         kept = ended .kept;
         silent = ended .silent;

@@ -10,7 +10,7 @@ use lib.ListN.{length, getD}
 use Rattle.bus.specs.Command.{isBroadcast}
 use Rattle.card.specs.Memory.{blockCells, cardBlocks, theCell, wordAddress, cellAt, withCells}
 use Rattle.card.specs.Sent.{sentPart}
-use Rattle.card.proofs.CellLaws.{length-with-cells, cell-of-with-cells}
+use Rattle.card.proofs.CellLaws.{cell-of-with-cells}
 use Rattle.card.proofs.Frame.{cells-keep}
 use Rattle.message.specs.declared.judge.SilenceAct.the-variants.{End}
 use Rattle.message.specs.declared.state.Second.the-variants.{Absent}
@@ -26,7 +26,7 @@ use Rattle.terminal.specs.SilenceStep.{silenceDone}
 use Rattle.terminal.specs.Machine.{step}
 use Rattle.terminal_laws.specs.Written.{TableElsewhere, WritesOnly}
 use Rattle.terminal_laws.proofs.StepFrame.{silence-step, written-closing}
-use Rattle.terminal_laws.proofs.ClosedCells.{closed-length, closed-data-cell}
+use Rattle.terminal_laws.proofs.ClosedCells.{closed-data-cell}
 use Rattle.rack.specs.Segment.{segment, Nothing, Said, dataWords}
 use Rattle.rack.specs.Hearing.{hears, saidIn, saidAfter}
 use Rattle.rack.specs.Changed.{MayChange, a-data-cell, a-service-cell, the-link}
@@ -46,7 +46,6 @@ pub record Ended (message : OpenMessage) (words : List ℕ) (old : Card) (outcom
   pub idle : outcome .card .core .message ≡ Idle
   pub station : outcome .card .core .station ≡ old .core .station
   pub status : outcome .card .core .status ≡ old .core .status
-  pub long : length (outcome .card .ram) ≡ length (old .ram)
   pub stored : (cell : ℕ) → cell < length words
       → cellAt (outcome .card .ram) (message .block) (theCell cell) ≡ getD words cell 0
   pub kept : WritesOnly (MayChange (asks message) (message .block) (message .table)) (old .ram)
@@ -109,9 +108,6 @@ module _ (message : OpenMessage) (old : Card) (at-data : AtItsData message old) 
         idle = refl;
         station = refl;
         status = refl;
-        long =
-            closed-length (asks message) _ time last _
-            ∙ length-with-cells words (old .ram) (message .block) 0;
         stored = stored-at-end time;
         kept = kept-at-end time;
         silent = λ to-all.

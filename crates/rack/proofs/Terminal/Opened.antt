@@ -90,7 +90,6 @@ module _ (line joined : Bool) (command time : ℕ) (old : Card) where
               status = own-status;
             };
         station = ended .station;
-        long = ended .long;
         stored = ended .stored;
         kept = ended .kept;
         sent-long = sent-length cardBlocks ram block (sound .whole-memory) on-card _ few;

@@ -32,7 +32,6 @@ sentBy command old new =
 pub record Took (command : ℕ) (words : List ℕ) (old : Card) (outcome : Outcome) : Type 0 where
   pub idle : IsIdle (outcome .card)
   pub station : outcome .card .core .station ≡ old .core .station
-  pub long : length (outcome .card .ram) ≡ length (old .ram)
   pub stored : (cell : ℕ) → cell < length words
       → cellAt (outcome .card .ram) (openedFor command old .block) (theCell cell)
       ≡ getD words cell 0
