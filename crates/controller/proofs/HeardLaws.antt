@@ -27,7 +27,7 @@ use Rattle.controller.specs.declared.state.Message.{Message}
 use Rattle.controller.specs.declared.state.Message.the-variants.{Idle, Open}
 use Rattle.controller.specs.declared.state.Controller.{Controller}
 use Rattle.controller.specs.Control.{blockIn, lineIn, goesOn}
-use Rattle.controller.specs.State.{desk, withMessage}
+use Rattle.controller.specs.State.{desk, openBack, withMessage}
 use Rattle.controller.specs.Heard.{
   Heard,
   heardAs,
@@ -109,7 +109,7 @@ module _ (state : Controller) (ram : List ℕ) (message : OpenMessage) where
         (ram′ : List ℕ)
         → act ≡ Take cell so-far → block ≡ blockIn (state .control)
         → ram′ ≡ withCell ram block (theCell cell) (word .value)
-        → new ≡ withMessage (Open (record { order = message .order; progress = Back so-far })) state
+        → new ≡ withMessage (openBack (message .order) so-far) state
         → heardAs Absent (desk new ram′) ≡ wordDone act message word (desk state ram)
     unfolding wordDone
     word-taken cell so-far block new ram′ is is-block is-ram is-new =
@@ -129,7 +129,7 @@ module _ (state : Controller) (ram : List ℕ) (message : OpenMessage) where
     silence-ends mark left is is-mark same = rw (is, ← is-mark) same
 
     pub silence-goes-on : (so-far : Exchange) (new : Controller) → act ≡ GoOn so-far
-        → new ≡ withMessage (Open (record { order = message .order; progress = Back so-far })) state
+        → new ≡ withMessage (openBack (message .order) so-far) state
         → heardAs Absent (desk new ram) ≡ silenceDone act message (desk state ram)
     unfolding silenceDone
     silence-goes-on so-far new is is-new = rw (is, ← is-new)

@@ -21,7 +21,7 @@ use Rattle.controller.specs.declared.state.Controller.{Controller}
 use Rattle.controller.specs.declared.row.Wanted.{Wanted}
 use Rattle.controller.specs.declared.row.Wanted.the-variants.{Nothing, Words}
 use Rattle.controller.specs.Control.{blockIn, lineIn}
-use Rattle.controller.specs.State.{withMessage}
+use Rattle.controller.specs.State.{openBack, withMessage}
 use Rattle.controller.specs.Row.{wantedAt, wordsWanted, messageWith, withTaken}
 
 module _ (state : Controller) where
@@ -52,10 +52,8 @@ module _ (state : Controller) where
     module _ (so-far : Exchange) (is-back : message .progress ≡ Back so-far) where
       pub back-taken : (taken : ℕ) (new : Controller)
           → new
-          ≡ withMessage (Open (record {
-            order = message .order;
-            progress = Back (exchangeOf (so-far .stage) taken (so-far .mark));
-          })) state
+          ≡ withMessage (openBack (message .order)
+          (exchangeOf (so-far .stage) taken (so-far .mark))) state
           → new ≡ withTaken taken state
       unfolding withTaken withMessage
       back-taken taken new is-new = rw (is-open, is-back) is-new

@@ -19,21 +19,16 @@ use Rattle.exchange.specs.declared.state.Stage.the-variants.{Reply}
 use Rattle.exchange.specs.Order.{formatFor}
 use Rattle.exchange.specs.Judge.{exchangeOf, dataHeard, wordHeard, onWord}
 use Rattle.controller.specs.declared.state.Result.the-variants.{Absent}
-use Rattle.controller.specs.declared.state.Progress.the-variants.{Back}
-use Rattle.controller.specs.declared.state.Message.the-variants.{Open}
 use Rattle.controller.specs.declared.state.Controller.{Controller}
 use Rattle.controller.specs.Control.{blockIn, lineIn}
-use Rattle.controller.specs.State.{Desk, desk, withMessage}
+use Rattle.controller.specs.State.{Desk, desk, openBack, withMessage}
 use Rattle.controller.specs.Heard.{Heard, heardAs, wordDone, wordMet, wordStep, wordsStep}
 
 module _ (state : Controller) (order : Order) (mark : Bool) where
   -- in the reply to an order, with so many data words in
   abbrev pub replyAt : ℕ → List ℕ → Desk
   replyAt taken ram =
-      desk (withMessage (Open (record {
-        order = order;
-        progress = Back (exchangeOf Reply taken mark);
-      })) state) ram
+      desk (withMessage (openBack order (exchangeOf Reply taken mark)) state) ram
 
   abbrev line : Bool
   line = lineIn (state .control)

@@ -30,7 +30,7 @@ use Rattle.controller.specs.declared.state.Message.the-variants.{Idle, O
 use Rattle.controller.specs.declared.state.Controller.{Controller}
 use Rattle.controller.specs.declared.row.Wanted.the-variants.{Nothing, Words}
 use Rattle.controller.specs.Control.{blockIn, lineIn}
-use Rattle.controller.specs.State.{Desk, desk, withMessage}
+use Rattle.controller.specs.State.{Desk, desk, openBack, withMessage}
 use Rattle.controller.specs.Heard.{Heard, heardAs, wordStep, wordsStep}
 use Rattle.controller.specs.Row.{
   wantedAt,
@@ -48,8 +48,7 @@ pub record WantedTold (state : Controller) (block : Block) (cell end : ℕ) (on 
     : Type 0 where
   pub order : Order
   pub mark : Bool
-  pub is-open : state .message
-      ≡ Open (record { order = order; progress = Back (exchangeOf Reply taken mark) })
+  pub is-open : state .message ≡ openBack order (exchangeOf Reply taken mark)
   pub more : taken < formatFor order .reply
   pub same-block : block ≡ blockIn (state .control)
   pub same-cell : cell ≡ replyCell (formatFor order) + taken
@@ -60,11 +59,8 @@ module _ (state : Controller) (block : Block) (cell end : ℕ) (on : Bool) (take
   abbrev Told : Type 0
   Told = WantedTold state block cell end on taken
 
-  abbrev opened : Order → Exchange → Message
-  opened order so-far = Open (record { order = order; progress = Back so-far })
-
   in-reply : (order : Order) (so-far : Exchange)
-      → state .message ≡ opened order so-far → so-far .stage ≡ Reply
+      → state .message ≡ openBack order so-far → so-far .stage ≡ Reply
       → wantedAt Reply (state .control) (formatFor order) (so-far .taken)
       ≡ Words block cell end on taken
       → Told
@@ -84,9 +80,9 @@ module _ (state : Controller) (block : Block) (cell end : ℕ) (on : Bool) (take
               is-open =
                   is-open
                   ∙ ap (λ (any : Stage).
-                  opened order (exchangeOf any (so-far .taken) (so-far .mark)))
+                  openBack order (exchangeOf any (so-far .taken) (so-far .mark)))
                   is-stage
-                  ∙ ap (λ (any : ℕ). opened order (exchangeOf Reply any (so-far .mark))) same-taken;
+                  ∙ ap (λ (any : ℕ). openBack order (exchangeOf Reply any (so-far .mark))) same-taken;
               more = rw same-taken at (ltb-true (so-far .taken) (formatFor order .reply) is);
               same-block = cc;
               same-cell = cc;
@@ -95,7 +91,7 @@ module _ (state : Controller) (block : Block) (cell end : ℕ) (on : Bool) (take
             }
         go false is same = absurd (clash (cc))
 
-  in-stage : (order : Order) (so-far : Exchange) → state .message ≡ opened order so-far
+  in-stage : (order : Order) (so-far : Exchange) → state .message ≡ openBack order so-far
       → (stage : Stage) → so-far .stage ≡ stage
       → wantedAt stage (state .control) (formatFor order) (so-far .taken)
       ≡ Words block cell end on taken

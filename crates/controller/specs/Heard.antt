@@ -24,7 +24,7 @@ use Rattle.controller.specs.declared.state.OpenMessage.{OpenMessage}
 use Rattle.controller.specs.declared.state.Message.{Message}
 use Rattle.controller.specs.declared.state.Message.the-variants.{Idle, Open}
 use Rattle.controller.specs.Control.{blockIn, lineIn, goesOn}
-use Rattle.controller.specs.State.{Desk, desk, withMessage}
+use Rattle.controller.specs.State.{Desk, desk, openBack, withMessage}
 
 -- what a word or a silence leaves: the result where it ends the message, and the desk
 pub record Heard : Type 0 where
@@ -62,10 +62,7 @@ ended code mark old =
 -- the message goes on
 abbrev pub goingOn : Order → Exchange → Desk → Heard
 goingOn order exchange old =
-    heardAs Absent
-    (desk
-    (withMessage (Open (record { order = order; progress = Back exchange })) (old .state))
-    (old .ram))
+    heardAs Absent (desk (withMessage (openBack order exchange) (old .state)) (old .ram))
 
 -- the mark so far
 abbrev pub markOf : Progress → Bool

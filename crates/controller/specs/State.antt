@@ -3,7 +3,10 @@ use mathlib.Core.Bool.{Bool, true, false}
 use mathlib.Core.List.{List}
 use Prim.Native.Nat.{ℕ}
 use Rattle.card.specs.Memory.{wordsIn}
+use Rattle.exchange.specs.declared.order.Order.{Order}
+use Rattle.exchange.specs.declared.state.Exchange.{Exchange}
 use Rattle.controller.specs.declared.state.Result.the-variants.{Absent}
+use Rattle.controller.specs.declared.state.Progress.the-variants.{Back}
 use Rattle.controller.specs.declared.state.Message.{Message}
 use Rattle.controller.specs.declared.state.Message.the-variants.{Idle, Open}
 use Rattle.controller.specs.declared.state.Controller.{Controller}
@@ -32,6 +35,10 @@ isIdle (Open message) = false
 abbrev pub atSetup : ℕ → ℕ → Controller
 atSetup control count =
     record { control = control; count = count; due = true; result = Absent; message = Idle }
+
+-- the open message of an order, answered so far: its first silence is behind it
+abbrev pub openBack : Order → Exchange → Message
+openBack order so-far = Open (record { order = order; progress = Back so-far })
 
 -- the state with another message
 unfoldable pub withMessage : Message → Controller → Controller

@@ -1,9 +1,7 @@
 // Words and silences that come back, and the end of a message: decided first, then done. These are
 // total: a memory of another length is refused by the actions.
 ghost use mathlib.Core.Path.{_≡_};
-ghost use Rattle.controller.specs.declared.state.Progress.the-variants.{Back};
-ghost use Rattle.controller.specs.declared.state.Message.the-variants.{Open};
-ghost use Rattle.controller.specs.State.{desk, withMessage};
+ghost use Rattle.controller.specs.State.{desk, openBack, withMessage};
 ghost use Rattle.controller.specs.Heard.{
   heardAs,
   ended,
@@ -111,7 +109,7 @@ impl Controller {
     // The message goes on.
     pub(crate) fn go_on(self, order: Order, exchange: Exchange) -> Controller
         ensures { λ controller. ⌜ controller
-            ≡ withMessage (Open (record { order = order; progress = Back exchange })) self ⌝ }
+            ≡ withMessage (openBack order exchange) self ⌝ }
     {
         let result = self.result;
         Controller {

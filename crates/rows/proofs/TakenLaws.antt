@@ -3,12 +3,13 @@
 use mathlib.Core.Path.{_≡_, refl, sym, ap, _∙_}
 use mathlib.Core.Logic.{_≢_}
 use mathlib.Core.Bool.{Bool, true, false, not, _&&_}
-use mathlib.Core.List.{List, [], _∷_}
+use mathlib.Core.List.{List}
 use Prim.Native.Nat.{ℕ, _+_, _-_, _≤_, _<_}
 use native.Mathlib.Omega.{arith}
 use lib.Dec.{leb, ltb}
 use lib.ListN.{length}
 use borrow.Author.Tests.{leb-true, ltb-true, not-true, not-false}
+use Rattle.rules.proofs.Empty.{no-entries}
 use Rattle.rules.proofs.Halves.{first-of-both, second-of-both}
 use Rattle.bus.specs.declared.word.Word.{Word}
 use Rattle.bus.specs.DataWords.{valuesOf}
@@ -29,10 +30,6 @@ use Rattle.rows.specs.Row.{
   rowTaken,
 }
 use Rattle.rows.proofs.FoundLaws.{found-at-most}
-
-empty : (words : List Word) → length words ≡ 0 → words ≡ []
-empty [] none = refl
-empty (heard ∷ more) none = absurd (omega (arith, none))
 
 -- ---- what the test allows
 
@@ -129,7 +126,7 @@ module _ (window : List ℕ) (line setup : Bool) (room most at : ℕ) (row : Row
           sym (ap (λ (any : RowLeft). any .taken .words) same) ∙ none in
           ap (λ (any : RowLeft). any .ram) same
           ∙ ap (λ (words : List Word). withCells ram (row .block) (row .cell) (valuesOf words))
-          (empty found no-words)
+          (no-entries found no-words)
       go false is = ap (λ (any : RowLeft). any .ram) (rw is at is-taken)
 
 pub ruleset takes = (not-taken, words-grow, words-fit, words-taken)

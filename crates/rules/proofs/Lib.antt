@@ -2,6 +2,7 @@
 --     Cases         which way a definition that goes by tests takes, for `search`
 --     Choices       what holds of each way that a definition by tests can take
 --     Stays         what stays as it was when more is known
+--     Empty         a list without entries
 --     Halves        what a test made of two tells of each of them
 --     Clash         what cannot be, since two constructors differ
 --     LentPart      what a store to a lent part is to the whole
@@ -11,6 +12,7 @@
 pub mod Cases
 pub mod Choices
 pub mod Stays
+pub mod Empty
 pub mod Halves
 pub mod Clash
 pub mod LentPart

@@ -3,13 +3,14 @@
 use mathlib.Core.Path.{_≡_, refl, sym, ap, _∙_}
 use mathlib.Core.Logic.{_≢_}
 use mathlib.Core.Bool.{Bool, true, false}
-use mathlib.Core.List.{List, [], _∷_, _++_, append-nil}
+use mathlib.Core.List.{List, [], _++_, append-nil}
 use Prim.Native.Nat.{ℕ, suc, _≤_}
 use native.Mathlib.Omega.{arith}
 use lib.Dec.{eqb}
 use lib.ListN.{length, take}
 use lib.Seq.{length-take-le}
 use borrow.Author.Tests.{eqb-true, eqb-false}
+use Rattle.rules.proofs.Empty.{no-entries}
 use Rattle.pieces.specs.declared.stop.Stop.{Stop}
 use Rattle.pieces.specs.declared.stop.Stop.the-variants.{Going, Hungry, Full, Over}
 use Rattle.pieces.specs.Course.{Course}
@@ -62,11 +63,6 @@ is-full Going goes ends waits = absurd (goes refl)
 is-full Hungry goes ends waits = absurd (waits refl)
 is-full Full goes ends waits = refl
 is-full Over goes ends waits = absurd (ends refl)
-
--- a piece of no bytes is none
-no-piece : (piece : List ℕ) → length piece ≡ 0 → piece ≡ []
-no-piece [] none = refl
-no-piece (byte ∷ rest) none = absurd (omega arith)
 
 -- what a call leaves to do is done
 module _ {Run : Type 0} (course : Course Run) {start old new : Run} {turns : ℕ} {window : List ℕ}
@@ -141,7 +137,7 @@ module _ {Run : Type 0} (course : Course Run) {start old new : Run} {turns : ℕ
         go true nothing is = over (unread last (step .is-stop ∙ hungry))
         go false true is =
             let same : heard .have ≡ pump .have = eqb-true (heard .have) (pump .have) is in
-            let none : piece ≡ [] = no-piece piece (omega (arith, read .grown .is-more)) in
+            let none : piece ≡ [] = no-entries piece (omega (arith, read .grown .is-more)) in
             let long = length-take-le (pump .have) window′ (step .inside) in
             going (reached (atEnd here)
             (finds-end (step .out) (so-far .progressed) (step .is-stop ∙ hungry)

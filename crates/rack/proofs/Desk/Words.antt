@@ -25,10 +25,8 @@ use Rattle.exchange.specs.Judge.{
   wordHeard,
   onWord,
 }
-use Rattle.controller.specs.declared.state.Progress.the-variants.{Back}
-use Rattle.controller.specs.declared.state.Message.the-variants.{Open}
 use Rattle.controller.specs.Control.{blockIn, lineIn}
-use Rattle.controller.specs.State.{Desk, desk, withMessage}
+use Rattle.controller.specs.State.{Desk, desk, openBack, withMessage}
 use Rattle.controller.specs.Heard.{wordDone, wordMet, wordStep, wordsStep}
 use Rattle.controller.proofs.RowWords.{row-is-words}
 use Rattle.rack.specs.Segment.{segment, commandWord, dataWords, wordsOn}
@@ -37,8 +35,7 @@ use Rattle.rack.proofs.Segments.{values-of-data, length-of-data, all-of
 -- the answer to an order has come so far, over a memory
 abbrev pub backAt : Desk → Order → Exchange → List ℕ → Desk
 backAt start order exchange ram =
-    desk (withMessage (Open (record { order = order; progress = Back exchange })) (start .state))
-    ram
+    desk (withMessage (openBack order exchange) (start .state)) ram
 
 module _ (start : Desk) (order : Order) where
   abbrev line : Bool
