@@ -82,7 +82,8 @@ module _ (state : Controller) (block : Block) (cell end : ℕ) (on : Bool) (take
                   ∙ ap (λ (any : Stage).
                   openBack order (exchangeOf any (so-far .taken) (so-far .mark)))
                   is-stage
-                  ∙ ap (λ (any : ℕ). openBack order (exchangeOf Reply any (so-far .mark))) same-taken;
+                  ∙ ap (λ (any : ℕ).
+                  openBack order (exchangeOf Reply any (so-far .mark))) same-taken;
               more = rw same-taken at (ltb-true (so-far .taken) (formatFor order .reply) is);
               same-block = cc;
               same-cell = cc;
