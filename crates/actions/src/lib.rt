@@ -2,6 +2,8 @@
 // for none; what is refused is as it was given. `heard` has what the bus brings, `host` what the
 // host does, `setup` how a terminal begins; `refusal` tells the number, `fitness` which states are
 // fit.
+#![tactic(auto)]
+
 use queue::Queue;
 use terminal::state::{Core, Reply};
 
@@ -12,21 +14,21 @@ mod refusal;
 mod setup;
 
 // What every action takes by value.
-#[derive(Drop)]
+#[derive(Clone, Copy)]
 pub struct Terminal {
     pub core: Core,
     pub queue: Queue,
 }
 
 // What an action leaves.
-#[derive(Drop)]
+#[derive(Clone, Copy)]
 pub struct Done {
     pub refusal: u8,
     pub terminal: Terminal,
 }
 
 // What a word or a silence leaves: the reply too.
-#[derive(Drop)]
+#[derive(Clone, Copy)]
 pub struct Answered {
     pub refusal: u8,
     pub reply: Reply,
@@ -34,7 +36,7 @@ pub struct Answered {
 }
 
 // What a queue read leaves: the word too, 0 where it is refused.
-#[derive(Drop)]
+#[derive(Clone, Copy)]
 pub struct QueueAnswered {
     pub refusal: u8,
     pub word: u16,

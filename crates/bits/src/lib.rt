@@ -1,5 +1,7 @@
 // What a bit counts for in a word. Status words, state words and queue reads are sums of such
 // weights.
+#![tactic(auto)]
+
 ghost use Rattle.bits.specs.Bit.{Weighed};
 
 // The weight of a bit that is on, and 0 for one that is off.

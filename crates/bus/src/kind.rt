@@ -5,7 +5,7 @@ ghost use Rattle.bus.specs.Kind.{kind_of, legal_mode_of, mode_kind_of};
 use crate::mode::{Mode, ModeWord};
 use crate::{command, mode};
 
-#[derive(Drop)]
+#[derive(Clone, Copy)]
 pub enum Kind {
     // data words for this station
     Receive,

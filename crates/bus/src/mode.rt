@@ -3,7 +3,7 @@ ghost use Rattle.std.specs.Prelude.{◌≡◌};
 ghost use Rattle.bus.specs.Mode.{mode_of, row};
 
 // What becomes of the one data word of a mode command.
-#[derive(Drop)]
+#[derive(Clone, Copy)]
 pub enum ModeWord {
     Without,
     Sent,
@@ -11,7 +11,7 @@ pub enum ModeWord {
 }
 
 // A row of the table. In a row that is not legal the other three say nothing.
-#[derive(Drop)]
+#[derive(Clone, Copy)]
 pub struct Mode {
     pub legal: bool,
     // the direction bit that the command must have

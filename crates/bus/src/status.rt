@@ -6,7 +6,7 @@ ghost use Rattle.bus.specs.Status.{status_word, caught_status, with_error};
 use crate::command;
 
 // A status word by what its bits say.
-#[derive(Drop)]
+#[derive(Clone, Copy)]
 pub struct Status {
     pub station: u16,
     pub error: bool,

@@ -2,7 +2,7 @@
 ghost use Rattle.std.specs.Prelude.{◌≡◌};
 ghost use Rattle.bus.specs.Word.{word_of};
 
-#[derive(Drop)]
+#[derive(Clone, Copy)]
 pub struct Word {
     // line B
     pub line: bool,

@@ -2,6 +2,8 @@
 // lies. `block` is lent one block's cells alone and `memory` does the lending; `table`, `state` and
 // `time` make and read what stands in the cells; `host` is the way in, `part` shows words of a
 // block, and `sent` those to send.
+#![tactic(auto)]
+
 pub mod block;
 pub mod host;
 pub mod memory;

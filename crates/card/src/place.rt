@@ -3,10 +3,10 @@
 ghost use Rattle.std.specs.Prelude.{◌≡◌};
 ghost use Rattle.card.specs.Memory.{word_address};
 
-#[derive(Drop)]
+#[derive(Clone, Copy)]
 pub struct Block(pub u16);
 
-#[derive(Drop)]
+#[derive(Clone, Copy)]
 pub struct Cell(pub u16);
 
 pub const BLOCK_CELLS: usize = 64;

@@ -4,7 +4,7 @@ ghost use Rattle.std.specs.Prelude.{◌≡◌};
 ghost use Rattle.card.specs.StateWord.{state_word};
 
 // A state word by what its bits say.
-#[derive(Drop)]
+#[derive(Clone, Copy)]
 pub struct State {
     // line B
     pub line: bool,

@@ -12,7 +12,7 @@ use bus::word;
 
 // What a word or a silence leaves: the number of its refusal, 0 for none, the result where it ends
 // the message, and the controller.
-#[derive(Drop)]
+#[derive(Clone, Copy)]
 pub struct Answered {
     pub refusal: u8,
     pub result: Result,

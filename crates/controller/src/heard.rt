@@ -24,7 +24,7 @@ use exchange::order::Order;
 use exchange::state::Exchange;
 
 // What a word or a silence leaves: the result where it ends the message, and the controller.
-#[derive(Drop)]
+#[derive(Clone, Copy)]
 pub struct Heard {
     pub result: Result,
     pub controller: Controller,

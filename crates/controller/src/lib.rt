@@ -3,6 +3,8 @@
 // word or a silence that comes back does, `row` the data words of a reply, taken many at a time,
 // `given` the words to give as a part of the memory, and `actions` the same with their refusals,
 // for whoever cannot answer for what he lends and hands in.
+#![tactic(auto)]
+
 pub mod actions;
 mod control;
 pub mod given;

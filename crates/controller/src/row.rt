@@ -11,7 +11,7 @@ use exchange::state::{Exchange, Stage};
 use formats::row::Format;
 
 // The data words that the open message waits for.
-#[derive(Drop)]
+#[derive(Clone, Copy)]
 pub enum Wanted {
     Nothing,
     Words {

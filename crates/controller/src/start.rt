@@ -13,14 +13,14 @@ use formats::code::Coded;
 use formats::row::Row;
 
 // What a start gives: words are named by their block and count, and shown as a part of the memory.
-#[derive(Drop)]
+#[derive(Clone, Copy)]
 pub enum Given {
     Nothing,
     Words { block: Block, count: u16 },
 }
 
 // What a start leaves: the number of its refusal, 0 for none, what it gives, and the controller.
-#[derive(Drop)]
+#[derive(Clone, Copy)]
 pub struct Started {
     pub refusal: u8,
     pub given: Given,

@@ -12,14 +12,14 @@ pub const DESK_BLOCKS: u16 = 256;
 pub const DESK_WORDS: usize = 16384;
 
 // What became of a message.
-#[derive(Drop)]
+#[derive(Clone, Copy)]
 pub enum Result {
     Absent,
     // the fault code, 0 for none, and whether a bit besides the address was set in a status
     Came { code: u16, mark: bool },
 }
 
-#[derive(Drop)]
+#[derive(Clone, Copy)]
 pub enum Progress {
     // the words are given: the first silence is due
     Given,
@@ -28,19 +28,19 @@ pub enum Progress {
 }
 
 // An open message: its row and commands as they were at the start, and how far it has come.
-#[derive(Drop)]
+#[derive(Clone, Copy)]
 pub struct OpenMessage {
     pub order: Order,
     pub progress: Progress,
 }
 
-#[derive(Drop)]
+#[derive(Clone, Copy)]
 pub enum Message {
     Idle,
     Open(OpenMessage),
 }
 
-#[derive(Drop)]
+#[derive(Clone, Copy)]
 pub struct Controller {
     // the control word
     pub control: u16,

@@ -1,6 +1,8 @@
 // The program of a controller's run that shows what the run left: the recording on standard input;
 // on standard output its lines, then the controller's state, an item a line, then every nonzero
 // cell of its memory, rising.
+#![tactic(auto)]
+
 mod state;
 
 use desk::Run;

@@ -1,4 +1,6 @@
 // The program of a controller's run: the recording on standard input, its lines on standard output.
+#![tactic(auto)]
+
 use desk_stream;
 
 fn main() {

@@ -16,7 +16,7 @@ use controller::state::{Controller, Result};
 use recording;
 
 // What comes of a field.
-#[derive(Drop)]
+#[derive(Clone, Copy)]
 pub enum Answer {
     // a start: the words that it gives
     Gave(Given),
@@ -25,7 +25,7 @@ pub enum Answer {
 }
 
 // What a field leaves: the number of a refusal, 0 for none, what comes of it, and the controller.
-#[derive(Drop)]
+#[derive(Clone, Copy)]
 pub struct Done {
     pub refusal: u8,
     pub answer: Answer,

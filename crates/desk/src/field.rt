@@ -5,7 +5,7 @@ ghost use Rattle.desk.specs.Reading.{seen_after};
 use recording;
 use recording::Seen;
 
-#[derive(Drop)]
+#[derive(Clone, Copy)]
 pub enum Field {
     // 0A: the control word and how many messages may be started
     Setup { control: u16, count: u16 },

@@ -4,6 +4,8 @@
 // a field does, `run` how far a run has come, `window` a call over a piece of the recording, and
 // `row` takes data words many at a time.
 // What other crates use is named here without its module.
+#![tactic(auto)]
+
 mod deed;
 mod field;
 mod print;

@@ -7,7 +7,7 @@ use recording;
 use recording::Seen;
 
 // What is found at a place of the input.
-#[derive(Drop)]
+#[derive(Clone, Copy)]
 pub enum Reading {
     // a whole field, and where the next one begins
     Taken { field: Field, next: usize },

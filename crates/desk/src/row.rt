@@ -10,7 +10,7 @@ use rows::{Row, Taken};
 use std::num;
 
 // What a row of data words leaves of a run, and how many turns are left then.
-#[derive(Drop)]
+#[derive(Clone, Copy)]
 pub struct Rowed {
     pub passed: Passed,
     pub left: u64,

@@ -6,7 +6,7 @@ use controller::state::Controller;
 use recording::Seen;
 
 // How far a run has come. The memory is lent.
-#[derive(Drop)]
+#[derive(Clone, Copy)]
 pub struct Run {
     pub controller: Controller,
     // what the reader has seen

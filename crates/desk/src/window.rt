@@ -15,7 +15,7 @@ use pieces::Stop;
 use std::num;
 
 // What a call leaves: the run, the place in the window, and how many bytes of lines there are.
-#[derive(Drop)]
+#[derive(Clone, Copy)]
 pub struct Passed {
     pub run: Run,
     pub at: usize,

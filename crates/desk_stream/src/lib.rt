@@ -1,4 +1,6 @@
 // A controller's run of the recording on standard input, its lines on standard output.
+#![tactic(auto)]
+
 ghost use Rattle.stream.specs.Came.{Came};
 ghost use Rattle.stream.specs.AsCoded.Turns.{Buffers};
 ghost use Rattle.desk.specs.Run.{run_at_start, desk_course};
@@ -11,7 +13,7 @@ use stream::Pump;
 
 // What a run leaves, and whether it is whole: it came to its own end, and the operating system took
 // every line of it.
-#[derive(Drop)]
+#[derive(Clone, Copy)]
 pub struct Done {
     pub run: Run,
     pub whole: bool,

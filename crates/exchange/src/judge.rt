@@ -16,7 +16,7 @@ use crate::state::{Exchange, Stage};
 use bus::command;
 use bus::word::Word;
 
-#[derive(Drop)]
+#[derive(Clone, Copy)]
 pub enum WordAct {
     // the message ends with a fault code
     Fault(u16),
@@ -24,7 +24,7 @@ pub enum WordAct {
     Take(u16, Exchange),
 }
 
-#[derive(Drop)]
+#[derive(Clone, Copy)]
 pub enum SilenceAct {
     // the message ends with a fault code
     Fault(u16),

@@ -5,7 +5,7 @@ ghost use Rattle.exchange.specs.Order.{asking_in, format_for};
 use bus::command;
 use formats::row::{Format, Row};
 
-#[derive(Drop)]
+#[derive(Clone, Copy)]
 pub struct Order {
     pub row: Row,
     pub broadcast: bool,

@@ -1,6 +1,6 @@
 // How far the answer to an order has come.
 
-#[derive(Drop)]
+#[derive(Clone, Copy)]
 pub enum Stage {
     // the status is due
     Awaiting,
@@ -12,7 +12,7 @@ pub enum Stage {
     Ended,
 }
 
-#[derive(Drop)]
+#[derive(Clone, Copy)]
 pub struct Exchange {
     pub stage: Stage,
     // data words of the reply

@@ -6,7 +6,7 @@ ghost use Rattle.formats.specs.Code.{coded_by};
 use crate::row::Row;
 
 // What a code stands for.
-#[derive(Drop)]
+#[derive(Clone, Copy)]
 pub enum Coded {
     Format { row: Row, broadcast: bool },
     // the table lacks it

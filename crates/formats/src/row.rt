@@ -6,7 +6,7 @@ ghost use Rattle.formats.specs.Row.{columns, format_of};
 use bus::command;
 
 // A row, in the order of the table.
-#[derive(Drop)]
+#[derive(Clone, Copy)]
 pub enum Row {
     // data from the controller to a terminal
     ToTerminal,
@@ -23,7 +23,7 @@ pub enum Row {
 }
 
 // What a row says of one message. Word k on the bus, from 0, stands in cell k of a block.
-#[derive(Drop)]
+#[derive(Clone, Copy)]
 pub struct Format {
     // words that the controller gives: commands, and data behind them
     pub given: u16,

@@ -3,6 +3,8 @@
 // nothing and answers the place that it was given. The private ones below write the parts of a
 // line: each is given the room that it needs, and its contract bounds the next place, by which a
 // caller sees that the room is enough for the parts that follow.
+#![tactic(auto)]
+
 ghost use Rattle.std.specs.Prelude.{◌≡◌, [], ◌∷◌, ◌++◌, ◌+◌, ◌-◌, ◌*◌, ◌≤◌, ◌<◌, length};
 ghost use Rattle.lines.specs.Digits.{
   hex_digit,

@@ -1,6 +1,8 @@
 // The library for other programs: a whole recording over a card memory and into a buffer that the
 // caller lends. `include/listrabor.h` declares the same for C; nothing checks the two against each
 // other.
+#![tactic(auto)]
+
 ghost use Rattle.std.specs.Prelude.{◌≡◌};
 ghost use Rattle.listrabor.specs.Lent.{room_for, size_refusal, lent, lent_run};
 

@@ -21,7 +21,7 @@ use bus::kind::Kind;
 use bus::{command, kind};
 use card::place::Cell;
 
-#[derive(Drop)]
+#[derive(Clone, Copy)]
 pub struct Asked {
     // words are skipped until silence, and message error is set at once
     pub illegal: bool,

@@ -20,7 +20,7 @@ use crate::state::{OpenMessage, Stage};
 use bus::command;
 use bus::word::Word;
 
-#[derive(Drop)]
+#[derive(Clone, Copy)]
 pub enum WordAct {
     // nothing
     Ignore,
@@ -40,7 +40,7 @@ pub enum WordAct {
     Drop,
 }
 
-#[derive(Drop)]
+#[derive(Clone, Copy)]
 pub enum SilenceAct {
     // nothing
     Ignore,

@@ -5,7 +5,7 @@ ghost use Rattle.message.specs.Message.{further, moved_message, has_second, seco
 use card::place::Block;
 
 // How far an open message has come.
-#[derive(Drop)]
+#[derive(Clone, Copy)]
 pub enum Stage {
     // data words are taken, or silence is due
     Data,
@@ -18,14 +18,14 @@ pub enum Stage {
 }
 
 // The second command of a transfer between two stations, kept until the end.
-#[derive(Drop)]
+#[derive(Clone, Copy)]
 pub enum Second {
     Absent,
     Command(u16),
 }
 
 // An open message: what its opening caught and fixed, and how far it has come.
-#[derive(Drop)]
+#[derive(Clone, Copy)]
 pub struct OpenMessage {
     pub command: u16,
     // line B
@@ -46,7 +46,7 @@ pub struct OpenMessage {
     pub stage: Stage,
 }
 
-#[derive(Drop)]
+#[derive(Clone, Copy)]
 pub enum Message {
     Idle,
     Open(OpenMessage),

@@ -2,6 +2,8 @@
 // the last line, and what is left of the window. What a run makes of its fields is not said here:
 // `specs/Course.antt` has what a program brings. What other crates use is named here without its
 // module.
+#![tactic(auto)]
+
 mod rest;
 mod stop;
 

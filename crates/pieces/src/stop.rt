@@ -7,7 +7,7 @@ ghost use Rattle.pieces.specs.AsCoded.Window.{is_going, stopped, stopped_at};
 use lines;
 
 // Why a call stopped: it has not, it needs more bytes, its buffer is full, or the run is over.
-#[derive(Drop)]
+#[derive(Clone, Copy)]
 pub enum Stop {
     Going,
     Hungry,
@@ -16,7 +16,7 @@ pub enum Stop {
 }
 
 // What a last line leaves: how many bytes of lines there are, and why the call stops.
-#[derive(Drop)]
+#[derive(Clone, Copy)]
 pub struct Stopped {
     pub put: usize,
     pub stop: Stop,

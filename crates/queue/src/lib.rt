@@ -1,6 +1,8 @@
 // The queue of finished blocks: a ring of 256 places with its overflow mark. `Ring` is where the
 // queue begins and how long it is; its places can be lent to it apart, so that a long run need not
 // carry them by value.
+#![tactic(auto)]
+
 ghost use Rattle.std.specs.Prelude.{◌≡◌};
 ghost use Rattle.queue.specs.Queue.{
   empty_queue,
@@ -15,28 +17,28 @@ ghost use Rattle.queue.specs.Queue.{
 // The places of the queue.
 pub const QUEUE_PLACES: u16 = 256;
 
-#[derive(Drop)]
+#[derive(Clone, Copy)]
 pub struct Ring {
     pub start: u16,
     pub count: u16,
     pub overflow: bool,
 }
 
-#[derive(Drop)]
+#[derive(Clone, Copy)]
 pub struct Queue {
     pub places: [u16; 256],
     pub ring: Ring,
 }
 
 // What a read gives: the word, and the ring after it. The places stay as they are.
-#[derive(Drop)]
+#[derive(Clone, Copy)]
 pub struct RingRead {
     pub word: u16,
     pub ring: Ring,
 }
 
 // What a read gives: the word, and the queue after it.
-#[derive(Drop)]
+#[derive(Clone, Copy)]
 pub struct QueueRead {
     pub word: u16,
     pub queue: Queue,

@@ -1,2 +1,4 @@
 // One bus: a controller and terminals of different stations, joined. Definitions and proofs, no
 // code.
+
+#![tactic(auto)]

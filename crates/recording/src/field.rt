@@ -18,7 +18,7 @@ use bus::limits::{ALL_FLAGS, ALL_MARKS, LAST_LINE, LAST_STATION};
 use card::host;
 
 // What a field holds, in the order of the tags 01 to 07.
-#[derive(Drop)]
+#[derive(Clone, Copy)]
 pub enum Field {
     Setup {
         station: u8,

@@ -4,6 +4,8 @@
 // not. `reading` takes one field or tells the refusal, `words` finds a word field by its marks and
 // writes the words of a field to memory, and `bytes` has the numbers that bytes spell. What other
 // crates use is named here without its module.
+#![tactic(auto)]
+
 mod bytes;
 mod field;
 mod reading;

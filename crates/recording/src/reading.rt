@@ -8,7 +8,7 @@ use crate::{bytes, field, tag};
 use card::place::CARD_BLOCKS;
 
 // What is found at a place of the input.
-#[derive(Drop)]
+#[derive(Clone, Copy)]
 pub enum Reading {
     // a whole field, and where the next one begins
     Taken { field: Field, next: usize },

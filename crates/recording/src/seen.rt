@@ -5,7 +5,7 @@ ghost use Rattle.recording.specs.Seen.{nothing_seen, is_due, seen_after};
 use crate::field::Field;
 use crate::tag::Tag;
 
-#[derive(Drop)]
+#[derive(Clone, Copy)]
 pub struct Seen {
     // a setup has been read
     pub setup: bool,

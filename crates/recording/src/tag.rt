@@ -3,7 +3,7 @@ ghost use Rattle.std.specs.Prelude.{◌≡◌};
 ghost use Rattle.recording.specs.Tag.{tag_of, is_unknown, length_fits};
 
 // The tag of a field, in the order of the bytes 01 to 07.
-#[derive(Drop)]
+#[derive(Clone, Copy)]
 pub enum Tag {
     Setup,
     Word,

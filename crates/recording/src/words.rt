@@ -9,7 +9,7 @@ use crate::{bytes, tag};
 use card::host;
 
 // What is found where a word field with certain marks is looked for.
-#[derive(Drop)]
+#[derive(Clone, Copy)]
 pub enum Found {
     // its value, and where the next field begins
     Value { value: u16, next: usize },

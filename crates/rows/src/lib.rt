@@ -1,6 +1,8 @@
 // A row of data words, taken at once: most fields of a busy rack are such words, and each touches a
 // few numbers and a cell alone. Here they are found in the recording and stored; whose they are,
 // the terminal's or the controller's, the caller knows.
+#![tactic(auto)]
+
 ghost use Rattle.std.specs.Prelude.{◌≡◌};
 ghost use Rattle.rows.specs.Row.{marks_on, stored, row_stored, row_left, row_taken};
 
@@ -11,7 +13,7 @@ use recording;
 use recording::Found;
 
 // Where the words of a row go.
-#[derive(Drop)]
+#[derive(Clone, Copy)]
 pub struct Row {
     pub block: Block,
     // the next one's cell
@@ -21,7 +23,7 @@ pub struct Row {
 }
 
 // How far a row has come: the next word's cell, and its place in the recording.
-#[derive(Drop)]
+#[derive(Clone, Copy)]
 struct Reach {
     cell: u16,
     at: usize,
@@ -29,7 +31,7 @@ struct Reach {
 
 // What a row leaves: how many words there were, the next one's cell, the place behind them, and how
 // many turns are left.
-#[derive(Drop)]
+#[derive(Clone, Copy)]
 pub struct Taken {
     pub words: u16,
     pub cell: u16,

@@ -3,6 +3,8 @@
 // the lines of a call are written at once, so that memory stays the same whatever the length. The
 // loop itself is each program's own, since its run has a type of its own: a turn of it is a call
 // over the window, and `settle`.
+#![tactic(auto)]
+
 ghost use Rattle.std.specs.Prelude.{◌≡◌, ◌≢◌, true, ◌<◌, length};
 ghost use Rattle.stream.specs.AsCoded.Turns.{
   is_failure,
@@ -21,7 +23,7 @@ use pieces::Stop;
 
 // How far a program has come beside its run: the bytes in its window, whether the input has ended,
 // whether the program has, and whether by the run's own end with every line taken.
-#[derive(Drop)]
+#[derive(Clone, Copy)]
 pub struct Pump {
     pub have: usize,
     pub ended: bool,
@@ -30,7 +32,7 @@ pub struct Pump {
 }
 
 // What a read leaves: how many bytes are in the window, and what the C library answered.
-#[derive(Drop)]
+#[derive(Clone, Copy)]
 struct Heard {
     have: usize,
     answer: isize,

@@ -20,7 +20,7 @@ use message::state::{Message, OpenMessage, Second, Stage};
 use queue::Ring;
 
 // What a word does to the open message.
-#[derive(Drop)]
+#[derive(Clone, Copy)]
 pub enum WordDeed {
     Rest,
     // the message goes on: its stage, second command and words taken then

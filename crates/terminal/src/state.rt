@@ -15,14 +15,14 @@ use message::state::Message;
 use queue::Ring;
 
 // The lines that are shut.
-#[derive(Drop)]
+#[derive(Clone, Copy)]
 pub struct Shut {
     pub a: bool,
     pub b: bool,
 }
 
 // All but the queue: small enough to go by value through every word of a run.
-#[derive(Drop)]
+#[derive(Clone, Copy)]
 pub struct Core {
     pub station: u16,
     pub table: Block,
@@ -37,7 +37,7 @@ pub struct Core {
 }
 
 // What a run carries by value from field to field. The queue's places and the RAM are lent.
-#[derive(Drop)]
+#[derive(Clone, Copy)]
 pub struct Held {
     pub core: Core,
     pub ring: Ring,
@@ -45,7 +45,7 @@ pub struct Held {
 
 // What the terminal puts on the bus. Words to send are named by their block and count, and shown as
 // a part of the RAM; the last command is a number.
-#[derive(Drop)]
+#[derive(Clone, Copy)]
 pub enum Reply {
     Silent,
     Status(u16),
@@ -61,14 +61,14 @@ pub enum Reply {
 }
 
 // What an event brings: a reply on the bus, or the word of a queue read.
-#[derive(Drop)]
+#[derive(Clone, Copy)]
 pub enum Answer {
     Replied(Reply),
     QueueWord(u16),
 }
 
 // What a silence brings: what is held after it, and the reply.
-#[derive(Drop)]
+#[derive(Clone, Copy)]
 pub struct Heard {
     pub held: Held,
     pub reply: Reply,

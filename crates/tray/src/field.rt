@@ -16,7 +16,7 @@ use recording::Field;
 use terminal::state::{Answer, Core, Held, Reply};
 
 // What a field leaves.
-#[derive(Drop)]
+#[derive(Clone, Copy)]
 pub struct Shown {
     pub held: Held,
     pub answer: Answer,

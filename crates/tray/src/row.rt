@@ -11,7 +11,7 @@ use std::num;
 use terminal::state::Held;
 
 // What a row of data words leaves of a run, and how many turns are left then.
-#[derive(Drop)]
+#[derive(Clone, Copy)]
 pub struct Rowed {
     pub passed: Passed,
     pub left: u64,

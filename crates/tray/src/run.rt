@@ -9,7 +9,7 @@ use recording::Seen;
 use terminal::state::{Core, Held};
 
 // How far a run has come. The queue's places and the RAM are lent.
-#[derive(Drop)]
+#[derive(Clone, Copy)]
 pub struct Tray {
     pub held: Held,
     // what the reader has seen

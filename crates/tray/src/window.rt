@@ -13,7 +13,7 @@ use recording::{Field, Reading};
 use std::num;
 
 // What a call leaves: the run, the place in the window, and how many bytes of lines there are.
-#[derive(Drop)]
+#[derive(Clone, Copy)]
 pub struct Passed {
     pub tray: Tray,
     pub at: usize,

@@ -1,6 +1,8 @@
 // The program of a tray run that shows what the run left: the recording on standard input; on
 // standard output its lines, then the terminal's state, an item a line, then every nonzero cell of
 // the card, rising.
+#![tactic(auto)]
+
 mod state;
 
 use io;

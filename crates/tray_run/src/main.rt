@@ -1,4 +1,6 @@
 // The program of a tray run: the recording on standard input, its lines on standard output.
+#![tactic(auto)]
+
 use tray_stream;
 
 fn main() {

@@ -1,4 +1,6 @@
 // A tray run of the recording on standard input, its lines on standard output.
+#![tactic(auto)]
+
 ghost use Rattle.stream.specs.Came.{Came};
 ghost use Rattle.stream.specs.AsCoded.Turns.{Buffers};
 ghost use Rattle.tray.specs.Run.{tray_at_start, tray_course};
@@ -11,7 +13,7 @@ use tray::Tray;
 
 // What a run leaves, and whether it is whole: it came to its own end, and the operating system took
 // every line of it.
-#[derive(Drop)]
+#[derive(Clone, Copy)]
 pub struct Done {
     pub tray: Tray,
     pub whole: bool,

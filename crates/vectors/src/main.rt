@@ -3,6 +3,8 @@
 // data, on standard input: as code, or as bytes of a literal, they would take long to check and say
 // no more. `notation` says how they are written, `groups` walks them. `recordings` runs those that
 // are recordings, `calls` those that are calls of the library's actions on a `given` terminal.
+#![tactic(auto)]
+
 mod calls;
 mod given;
 mod groups;

@@ -115,7 +115,7 @@ fn digit(byte: u8) -> u8 {
 }
 
 // How far a reading has come: the bytes that were put, and the high digit of the next, 16 for none.
-#[derive(Drop)]
+#[derive(Clone, Copy)]
 struct Pairing {
     count: usize,
     high: u8,

@@ -4,7 +4,7 @@ use libc::STDOUT_FILENO;
 use std::num;
 
 // How many cases were tried, and how many came out as they should.
-#[derive(Drop)]
+#[derive(Clone, Copy)]
 pub struct Score {
     pub right: u64,
     pub tried: u64,
