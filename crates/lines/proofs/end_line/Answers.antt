@@ -1,0 +1,10 @@
+-- `lines::end_line` meets its contract, with room and without: its parts are written in turn.
+-- Assumes nothing.
+use Rattle.lines.proofs.LineLaws.{end_parts, with_room, without_room}
+use Rattle.lines.proofs.end_line.Goals as goal
+
+pub returns-then-left_from-lt-LINE_ROOM : goal.returns-then-left_from-lt-LINE_ROOM
+returns-then-left_from-lt-LINE_ROOM c = search without_room
+
+pub returns : goal.returns
+returns c = search (with_room, end_parts)
