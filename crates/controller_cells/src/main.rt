@@ -10,7 +10,7 @@ use desk_stream;
 use shown::cells;
 use std::io::Write;
 
-// State and cells, in one write. There is room for both (`nothing-is-cut`): the state takes less
+// State and cells, in one write. There is room for both (`nothing_is_cut`): the state takes less
 // than 300 bytes, and 16,384 cells take 163,840, at 10 bytes a line.
 fn print_left<O: Write>(output: &mut O, run: Run, ram: &[u16; 16384]) {
     let memory: &[u16] = ram;

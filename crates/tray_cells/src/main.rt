@@ -10,7 +10,7 @@ use std::io::Write;
 use tray::Tray;
 use tray_stream;
 
-// State and cells, in one write. There is room for both (`nothing-is-cut`): with 256 blocks that
+// State and cells, in one write. There is room for both (`nothing_is_cut`): with 256 blocks that
 // wait, the state takes some 1,300 bytes, and 16,384 cells take 163,840, at 10 bytes a line.
 fn print_left<O: Write>(output: &mut O, tray: Tray, places: &[u16; 256], ram: &[u16; 16384]) {
     let memory: &[u16] = ram;
