@@ -6,7 +6,6 @@ use Rattle.recording.specs.declared.seen.Seen.{Seen}
 use Rattle.recording.specs.declared.reading.Reading.{Reading as SharedReading}
 use Rattle.recording.specs.Bytes.{bytes_left, byte_at, word_at}
 use Rattle.recording.specs.Reading as recording
-use Rattle.desk.specs.declared.field.Field.{Field}
 use Rattle.desk.specs.declared.field.Field.TheVariants.{Setup, Start}
 use Rattle.desk.specs.declared.reading.Reading.{Reading}
 use Rattle.desk.specs.declared.reading.Reading.TheVariants.{Taken, End, Refused}
