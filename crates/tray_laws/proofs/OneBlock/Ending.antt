@@ -6,7 +6,15 @@ use Rattle.card.specs.declared.place.Block.{Block}
 use Rattle.terminal.specs.State.{Card}
 use Rattle.terminal.specs.Event.{Event, word}
 use Rattle.terminal.specs.Machine.{step, run}
-use Rattle.terminal_laws.specs.OneBlock.{still_before, Alike, Later, SameAfter, BothOver, closed, superseded}
+use Rattle.terminal_laws.specs.OneBlock.{
+  still_before,
+  Alike,
+  Later,
+  SameAfter,
+  BothOver,
+  closed,
+  superseded,
+}
 
 module _ (Spent : Block → Type 0) where
   -- cards that are alike before the later events are alike after them
