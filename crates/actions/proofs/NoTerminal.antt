@@ -69,7 +69,8 @@ unfolding without_memory
 without_memory_lem in_order number refused event = rw no_terminal_is_unfit refl
 
 pub no_terminal_is_refused : RefusedByAll no_terminal
-unfolding word_action silence_action host_write_action read_queue_action move_table_action set_flags_action
+unfolding word_action silence_action host_write_action read_queue_action move_table_action
+    set_flags_action
 no_terminal_is_refused =
     record {
       word = λ marks value time ram. with_memory_lem _ _ _ ram;

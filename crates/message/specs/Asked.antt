@@ -117,7 +117,8 @@ asked_by Transmit command =
     yields keeps_none no_act
 asked_by ModeStatus command = columns legal no_block no_words serves keeps_status no_act
 asked_by ModeLast command = columns legal no_block no_words serves keeps_both no_act
-asked_by ModeSwitch command = columns legal no_block no_words serves keeps_none (mode_code_of command)
+asked_by ModeSwitch command =
+    columns legal no_block no_words serves keeps_none (mode_code_of command)
 asked_by ModeSend command =
     columns legal (chain (the_cell (cond (eqb (mode_code_of command) 16) 32 63))) (sends 1)
     serves keeps_none no_act

@@ -92,7 +92,8 @@ module _ (act : WordAct) (deed : WordDeed) (message : OpenMessage) (word : Word)
     unfolding word_deed_done
     word_went_on stage second taken held goes is_held_lem = done_by_lem _ (rw (goes, is_held_lem))
 
-    pub word_stored_lem : (taken : ℕ) (stored : List ℕ) (held : Held) → deed ≡ word-deeds.Store taken
+    pub word_stored_lem : (taken : ℕ) (stored : List ℕ) (held : Held)
+        → deed ≡ word-deeds.Store taken
         → stored ≡ with_cell ram message.block (the_cell message.taken) word.value
         → held ≡ going_on (further Data message.second taken message) core ring
         → card held.core (queue places held.ring) stored ≡ done_by act word before
@@ -114,7 +115,8 @@ pub idle_left : (act : WordAct) (word : Word) (core : Core) (places : List ℕ) 
     → card core (queue places ring) ram ≡ done_by act word (card core (queue places ring) ram)
 unfolding done_by
 idle_left act word core places ring ram is =
-    sym (ap (λ (met : Message). done_to_message met act word (card core (queue places ring) ram)) is)
+    sym (ap (λ (met : Message). done_to_message met act word (card core (queue places ring) ram))
+    is)
 
 pub ruleset word-acting = (idle_left, word_rested, word_went_on, word_stored_lem, word_faulted)
 

@@ -59,7 +59,8 @@ table_word_at word core ram = cell_at ram core.table (asked_of word.value).cell
 
 -- the message that a command opens
 abbrev pub opened_as : Word → Core → List ℕ → OpenMessage
-opened_as word core ram = opened_message (asked_of word.value) (table_word_at word core ram) word core
+opened_as word core ram =
+    opened_message (asked_of word.value) (table_word_at word core ram) word core
 
 -- the core after it
 abbrev pub opened_at : Word → Core → List ℕ → Core

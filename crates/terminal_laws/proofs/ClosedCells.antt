@@ -1,6 +1,6 @@
 -- What a closing makes of memory, for memory of any length: whatever closes the message, memory is
--- as `closed_ram` has it, `closed_ram_lem`, as long as it was, and the data cells of the message's block
--- are kept, `closing_keeps_data`, unless the table is that block. Assumes nothing.
+-- as `closed_ram` has it, `closed_ram_lem`, as long as it was, and the data cells of the message's
+-- block are kept, `closing_keeps_data`, unless the table is that block. Assumes nothing.
 use mathlib.Core.Path.{◌≡◌, ap, ◌∙◌}
 use mathlib.Core.Bool.{true, false}
 use mathlib.Core.List.{List}
@@ -50,10 +50,12 @@ module _ (old : Card) (message : OpenMessage) (is_open : old.core.message ≡ Op
   unfolding word_done silence_done faulted ended closing opening
   closed_ram_lem (by_fault {heard = heard} judged) =
       closed_by _ heard.time
-      (ap (λ (outcome : Outcome). outcome.card.ram) (word_step_lem old message is_open heard judged))
+      (ap (λ (outcome : Outcome). outcome.card.ram)
+      (word_step_lem old message is_open heard judged))
   closed_ram_lem (by_superseding {heard = heard} judged) =
       closed_by _ heard.time
-      (ap (λ (outcome : Outcome). outcome.card.ram) (word_step_lem old message is_open heard judged))
+      (ap (λ (outcome : Outcome). outcome.card.ram)
+      (word_step_lem old message is_open heard judged))
   closed_ram_lem (by_silence {line = line} {time = time} judged) =
       closed_by _ time
       (ap (λ (outcome : Outcome). outcome.card.ram)

@@ -170,8 +170,8 @@ module _ (station : ℕ) (five-bits : station < 32) where
 
   step_stays : (event : Event) (old : Card)
       → Stays station old → Stays station (step event old).card
-  unfolding step word_step silence_step read_queue_step host_write_step move_table_step set_flags_step
-      with_table with_flags with_message
+  unfolding step word_step silence_step read_queue_step host_write_step move_table_step
+      set_flags_step with_table with_flags with_message
   step_stays (word heard) old stays = word_met_stays old.core.message heard old stays
   step_stays (silence line time) old stays =
       silence_met_stays old.core.message line time old stays

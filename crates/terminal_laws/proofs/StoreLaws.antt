@@ -30,7 +30,13 @@ use Rattle.message.specs.declared.state.Stage.TheVariants.{
 }
 use Rattle.message.specs.declared.state.OpenMessage.{OpenMessage}
 use Rattle.message.specs.Asked.{asks}
-use Rattle.message.specs.Words.{in_data, in_second_command, in_awaiting_status, word_in_stage, on_word}
+use Rattle.message.specs.Words.{
+  in_data,
+  in_second_command,
+  in_awaiting_status,
+  word_in_stage,
+  on_word,
+}
 use Rattle.message.proofs.AskedBounds.{takes_at_most, takes_with_block}
 use Rattle.terminal.specs.State.{Card}
 use Rattle.terminal_laws.specs.Closes.{word_judged}

@@ -70,7 +70,8 @@ word_deed_done (word-deeds.Fault code) message word old =
 
 abbrev pub done_to_message : Message → WordAct → Word → Card → Card
 done_to_message Idle act word old = old
-done_to_message (Open message) act word old = word_deed_done (word_deed act message) message word old
+done_to_message (Open message) act word old =
+    word_deed_done (word_deed act message) message word old
 
 unfoldable pub done_by : WordAct → Word → Card → Card
 done_by act word old = done_to_message old.core.message act word old

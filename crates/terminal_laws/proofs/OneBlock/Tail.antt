@@ -186,7 +186,8 @@ module _ {Spent : Block → Type 0} {before : Bool} (core : Core) (status : ℕ)
 
   still_word : (message : Message) (heard : Word)
       → Statuses before message core.status status
-      → StillRelated Spent before message (word_met message heard here) (word_met message heard there)
+      → StillRelated Spent before message (word_met message heard here)
+      (word_met message heard there)
   unfolding with_status
   still_word Idle heard remembered =
       still_own (own_command core.station core.flags heard) heard
@@ -250,8 +251,8 @@ module _ {Spent : Block → Type 0} {before : Bool} (core : Core) (status : ℕ)
   -- each event
   still_event : (event : Event)
       → StillRelated Spent before core.message (step event here) (step event there)
-  unfolding step word_step silence_step host_write_step move_table_step set_flags_step with_status with_table
-      with_flags with_message
+  unfolding step word_step silence_step host_write_step move_table_step set_flags_step
+      with_status with_table with_flags with_message
   still_event (word heard) = still_word core.message heard statuses
   still_event (silence line time) = still_silence core.message line time statuses
   still_event read_queue = still_read
