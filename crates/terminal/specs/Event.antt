@@ -10,7 +10,7 @@ use Rattle.terminal.specs.declared.state.Reply.{Reply}
 use Rattle.terminal.specs.declared.state.Answer.{Answer}
 use Rattle.terminal.specs.declared.state.Answer.TheVariants.{Replied, QueueWord}
 use Rattle.terminal.specs.declared.state.Reply.TheVariants.{Silent}
-use Rattle.terminal.specs.State.{Card, card, with_message, with_core}
+use Rattle.terminal.specs.State.{Card, with_message, with_core}
 use Rattle.terminal.specs.Opening.{opening}
 
 -- words and silences of the bus, and the host's actions

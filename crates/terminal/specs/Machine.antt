@@ -4,16 +4,7 @@ use Rattle.std.proofs.lemmas.List.Edits.{sets}
 use Rattle.card.specs.declared.place.Block.{Block}
 use Rattle.queue.specs.Queue.{oldest_word, without_oldest, queue}
 use Rattle.message.specs.Message.{moved_message}
-use Rattle.terminal.specs.State.{
-  Card,
-  card,
-  with_table,
-  with_flags,
-  with_message,
-  with_core,
-  with_queue,
-  with_ram,
-}
+use Rattle.terminal.specs.State.{Card, with_table, with_flags, with_message, with_core, with_queue, with_ram}
 use Rattle.terminal.specs.Event.{
   Event,
   word,

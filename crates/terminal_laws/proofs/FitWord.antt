@@ -180,27 +180,27 @@ module _ (station : ℕ) (message : OpenMessage) (word : Word) (fit : FitOpen st
 -- ---- what is decided is done
 
 -- each act keeps the card fit
-fit_word_done : (act : WordAct) (message : OpenMessage) (word : Word) (old : Card)
+fit_word_done : (message : OpenMessage) (act : WordAct) (word : Word) (old : Card)
     → FitOpen old.core.station message → FitCard old
     → FitAct old.core.station message word act
     → FitCard (word_done act (asks message) message word old).card
 unfolding word_done faulted closing with_message with_status
-fit_word_done Ignore message word old parts fit ignores = fit
-fit_word_done (Store taken) message word old parts fit (stores next) =
+fit_word_done message Ignore word old parts fit ignores = fit
+fit_word_done message (Store taken) word old parts fit (stores next) =
     fit_going_on _ _ old next fit
-fit_word_done (Check taken) message word old parts fit (checks next) =
+fit_word_done message (Check taken) word old parts fit (checks next) =
     fit_going_on _ _ old next fit
-fit_word_done (TakeSecond value) message word old parts fit (takes_second next) =
+fit_word_done message (TakeSecond value) word old parts fit (takes_second next) =
     fit_going_on _ _ old next fit
-fit_word_done TakeStatus message word old parts fit (takes_status next) =
+fit_word_done message TakeStatus word old parts fit (takes_status next) =
     fit_going_on _ _ old next fit
-fit_word_done (Fault code) message word old parts fit faults =
+fit_word_done message (Fault code) word old parts fit faults =
     fit_faulted (asks message) code word.time message old parts.block fit
-fit_word_done Supersede message word old parts fit (supersedes to-us) =
+fit_word_done message Supersede word old parts fit (supersedes to-us) =
     let asked = asks message in
     fit_opening word (faulted asked 7 word.time message old) to-us
     (fit_faulted asked 7 word.time message old parts.block fit)
-fit_word_done Drop message word old parts fit (drops to-us) = fit_opening word old to-us fit
+fit_word_done message Drop word old parts fit (drops to-us) = fit_opening word old to-us fit
 
 -- with nothing open, an own command opens
 fit_word_idle : (own : Bool) (word : Word) (old : Card)
@@ -218,5 +218,5 @@ fit_word Idle word old fit-message fit =
     fit_word_idle (own_command old.core.station old.core.flags word) word old refl fit
 fit_word (Open message) word old fit-message fit =
     let parts = fit_open_parts old.core.station message fit-message in
-    fit_word_done _ message word old parts fit
+    fit_word_done message _ word old parts fit
     (word_fits old.core.station message word parts old.core.flags)

@@ -23,6 +23,7 @@ use Rattle.terminal_laws.specs.Written.{
   data_cell_lem,
   service_cell,
   table_cell,
+  host_cell,
   OnBus,
   a_word,
   a_silence,
@@ -49,6 +50,8 @@ action_may_write_nothing old action (service_cell with_block closes from to is) 
     action_closes_nothing old action closes
 action_may_write_nothing old action (table_cell with_block closes stays is) =
     action_closes_nothing old action closes
+action_may_write_nothing old action (data_cell_lem with_block stores is) = elim action [ ]
+action_may_write_nothing old action (host_cell from below) = elim action [ ]
 
 not_idle : {message : OpenMessage} (old : Card) → old.core.message ≡ Idle
     → OpenWithBlock old message → ⊥

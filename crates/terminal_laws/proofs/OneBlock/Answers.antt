@@ -8,7 +8,17 @@ use lib.Dec.{eqb}
 use Rattle.rules.proofs.Choices.{by_test}
 use Rattle.rules.proofs.Clash.{clash}
 use Rattle.bus.specs.declared.kind.Kind.{Kind}
-use Rattle.bus.specs.declared.kind.Kind.TheVariants.{ModeStatus, ModeLast}
+use Rattle.bus.specs.declared.kind.Kind.TheVariants.{
+  Receive,
+  Transmit,
+  ModeStatus,
+  ModeLast,
+  ModeSwitch,
+  ModeSend,
+  ModeTake,
+  ModeReply,
+  Illegal,
+}
 use Rattle.bus.specs.Kind.{kind_of}
 use Rattle.bus.specs.Status.{without_error}
 use Rattle.card.specs.declared.place.Block.{Block}
@@ -89,6 +99,13 @@ module _ (message : OpenMessage) (core : Core) (status : ℕ)
   asked-reply ModeStatus is asks_status =
       status-reply (replies core message) message.busy is
   asked-reply ModeLast is asks_last = last_reply (replies core message) is
+  asked-reply Receive is asks = elim asks [ ]
+  asked-reply Transmit is asks = elim asks [ ]
+  asked-reply ModeSwitch is asks = elim asks [ ]
+  asked-reply ModeSend is asks = elim asks [ ]
+  asked-reply ModeTake is asks = elim asks [ ]
+  asked-reply ModeReply is asks = elim asks [ ]
+  asked-reply Illegal is asks = elim asks [ ]
 
 pub same-reply : {before : Bool} (message : OpenMessage) (core : Core) (status : ℕ)
     → Statuses before (Open message) core.status status

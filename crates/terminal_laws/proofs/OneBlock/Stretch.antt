@@ -53,7 +53,18 @@ use Rattle.terminal.specs.Closing.{
   switched,
   ended,
 }
-use Rattle.terminal.specs.Event.{Event, word, silence, none, quietly, opens}
+use Rattle.terminal.specs.Event.{
+  Event,
+  word,
+  silence,
+  read_queue,
+  host_write,
+  move_table,
+  set_flags,
+  none,
+  quietly,
+  opens,
+}
 use Rattle.terminal.specs.WordStep.{word_done, word_step}
 use Rattle.terminal.specs.SilenceStep.{silence_done, silence_step}
 use Rattle.terminal.specs.Machine.{step, run}
@@ -206,7 +217,11 @@ module _ {Spent : Block → Type 0} (start : Card) (message : OpenMessage)
       → Span Spent start message old → Span Spent start message (run events old)
   unfolding run
   span_run [] nothing span = span
-  span_run (word heard ∷ events) (a_word quiet calm) span =
-      span_run events calm (span_word heard quiet span)
-  span_run (silence line time ∷ events) (a_silence calm) span =
-      span_run events calm (span_silence line time span)
+  span_run {old = old} (word heard ∷ events) (a_word quiet calm) span =
+      span_run {old = (step (word heard) old).card} events calm (span_word heard quiet span)
+  span_run {old = old} (silence line time ∷ events) (a_silence calm) span =
+      span_run {old = (step (silence line time) old).card} events calm (span_silence line time span)
+  span_run (read_queue ∷ events) calm span = elim calm [ ]
+  span_run (host_write address words ∷ events) calm span = elim calm [ ]
+  span_run (move_table table ∷ events) calm span = elim calm [ ]
+  span_run (set_flags flags ∷ events) calm span = elim calm [ ]

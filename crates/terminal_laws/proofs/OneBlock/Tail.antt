@@ -284,7 +284,7 @@ pub still_same : {Spent : Block → Type 0} {before : Bool} (message : Message) 
     → (step event here).answer ≡ Replied (Words status block count) → Spent block → ⊥)
     → StillRelated Spent before message (step event here) (step event there)
     → SameOutcome Spent before message (step event here) (step event there)
-still_same message event here there spared good =
+still_same message event here _ spared good =
     record {
       answer = good.answer;
       words = λ status block count is.
@@ -299,10 +299,10 @@ pub tail : {Spent : Block → Type 0} {before : Bool} {here there : Card} (after
     → Later Spent before after here there
 unfolding Spared Later
 tail [] spared related = tt
-tail {here = here} {there = there} (event ∷ after) spared related =
+tail {before = before} {here = one} {there = other} (event ∷ after) spared related =
     let good = still_step event spared.0 related in (
-      still_same here.core.message event here there spared.1 good,
-      tail after spared.2 good.related,
+      still_same one.core.message event one other spared.1 good,
+      tail {before = still_before before (step event one).opened} after spared.2 good.related,
     )
 
 -- ---- the relation after them, for what comes next
@@ -318,5 +318,6 @@ pub related_run : {Spent : Block → Type 0} {before : Bool} {here there : Card}
     → Related Spent (still_before_all before after here) (run after here) (run after there)
 unfolding Spared still_before_all run
 related_run [] spared related = related
-related_run (event ∷ after) spared related =
-    related_run after spared.2 (still_step event spared.0 related).related
+related_run {before = before} {here = one} (event ∷ after) spared related =
+    related_run {before = still_before before (step event one).opened} after spared.2
+    (still_step event spared.0 related).related

@@ -15,7 +15,7 @@ use Rattle.message.specs.Message.{further}
 use Rattle.terminal.specs.declared.state.Core.{Core}
 use Rattle.terminal.specs.State.{Card, card, with_status, with_message}
 use Rattle.terminal.specs.Opening.{opened_message, opened_core, opened_as, opening}
-use Rattle.terminal.specs.Event.{Event, word, Outcome, opens}
+use Rattle.terminal.specs.Event.{Event, word, Outcome}
 use Rattle.terminal.specs.Machine.{step, run}
 use Rattle.terminal_laws.specs.OneBlock.{
   SameAfter,

@@ -1,0 +1,8 @@
+-- `actions::fitness::is_fit_message` meets its contract, by the cases of the message. Assumes
+-- nothing.
+use borrow.Author.Rules.{rules}
+use Rattle.actions.proofs.FitnessLaws.{open_is_fit}
+use Rattle.actions.proofs.fitness.is_fit_message.Goals as goal
+
+pub returns-in-Open : goal.returns-in-Open
+returns-in-Open c = search (rules, open_is_fit)

@@ -1,0 +1,6 @@
+-- `actions::fitness::is_fit_second` meets its contract, by the cases of the second command.
+-- Assumes nothing.
+use Rattle.actions.proofs.fitness.is_fit_second.Goals as goal
+
+pub returns-in-Command : goal.returns-in-Command
+returns-in-Command c = cc

@@ -1,0 +1,8 @@
+-- `terminal::Core::at_setup` meets its contract. Assumes nothing.
+use mathlib.Core.Path.{refl}
+use Rattle.terminal.specs.State.{core_at_setup}
+use Rattle.terminal.proofs.state.Core.at_setup.Goals as goal
+
+pub returns : goal.returns
+unfolding core_at_setup
+returns c = refl
