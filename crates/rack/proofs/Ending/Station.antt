@@ -69,7 +69,8 @@ words_heard (heard ∷ words) old =
 
 -- ---- a silence
 
-silence_done_lem : (act : SilenceAct) (asked : Asked) (message : OpenMessage) (time : ℕ) (old : Card)
+silence_done_lem : (act : SilenceAct) (asked : Asked) (message : OpenMessage) (time : ℕ)
+    (old : Card)
     → (silence_done act asked message time old).card.core.station ≡ old.core.station
 unfolding silence_done faulted ended closing with_message with_status with_switches
 silence_done_lem silences.Ignore asked message time old = refl
