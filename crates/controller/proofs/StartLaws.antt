@@ -75,7 +75,8 @@ module _ (state : Controller) (ram : List ℕ) (idle : Bool)
             → block ≡ block_in state.control → new ≡ with_order order state
             → started_as 0 (Words block format.given) (desk new ram) ≡ start_step (desk state ram)
         unfolding start_step starting_by starting
-        words_given_lem row broadcast order format block new has is-order is-format is_Block is_new =
+        words_given_lem row broadcast order format block new has is-order is-format is_Block
+            is_new =
             rw (
               ← is-idle,
               not-false (state.due && idle && leb 1 state.count) may,

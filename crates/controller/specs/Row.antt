@@ -28,7 +28,8 @@ abbrev pub wanted_at : Stage → ℕ → Format → ℕ → Wanted
 wanted_at Awaiting control format taken = Nothing
 wanted_at Reply control format taken =
     cond (ltb taken format.reply)
-    (Words (block_in control) (reply_cell format + taken) (last_cell format) (line_in control) taken)
+    (Words (block_in control) (reply_cell format + taken) (last_cell format) (line_in control)
+    taken)
     Nothing
 wanted_at AwaitingLast control format taken = Nothing
 wanted_at Ended control format taken = Nothing

@@ -1,7 +1,24 @@
 -- The sound bus: a segment and the silence behind it is a turn; the replies that the silence brings
 -- are the next segments, one after the other; and so on until the controller's message has ended
 -- and no reply waits. Definitions only. Assumes nothing.
-use Rattle.std.specs.Prelude.{Bool, true, false, cond, ◌&&◌, List, [], ◌∷◌, ◌++◌, ℕ, zero, suc, ◌-◌, ltb, get_or, drop}
+use Rattle.std.specs.Prelude.{
+  Bool,
+  true,
+  false,
+  cond,
+  ◌&&◌,
+  List,
+  [],
+  ◌∷◌,
+  ◌++◌,
+  ℕ,
+  zero,
+  suc,
+  ◌-◌,
+  ltb,
+  get_or,
+  drop,
+}
 use Rattle.message.specs.declared.state.Second.{Second}
 use Rattle.message.specs.declared.state.Second.TheVariants.{Absent, Command}
 use Rattle.terminal.specs.State.{Card}

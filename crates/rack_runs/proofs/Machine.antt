@@ -89,8 +89,8 @@ answers = 0
 -- ---- the bus
 
 turns : ℕ
-unfolding data_words at_station at_desk hears turn_of said_in heard.words_step desk_turn turn_all turn
-    placed replies_to
+unfolding data_words at_station at_desk hears turn_of said_in heard.words_step desk_turn turn_all
+    turn placed replies_to
 turns = 0
 
 unfoldable pub machine : ℕ

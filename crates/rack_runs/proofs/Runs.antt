@@ -147,7 +147,8 @@ a_lacking_code_ends_a_run = refl
 
 -- block 2 of station 5 links to itself, and each message joins the queue
 unfoldable looping_five : Card
-looping_five = terminal_of 5 1 0 (put 1 3 (0x4002 ∷ []) (put 2 63 (0x4002 ∷ []) (memory_of 5 1 2 [])))
+looping_five =
+    terminal_of 5 1 0 (put 1 3 (0x4002 ∷ []) (put 2 63 (0x4002 ∷ []) (memory_of 5 1 2 [])))
 
 unfoldable looping : Rack
 looping = rack (chained 5 to_five 0x00D0) (looping_five ∷ [])

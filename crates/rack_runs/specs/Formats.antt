@@ -137,6 +137,6 @@ ten_formats =
 
 -- to unfold `cases` is to unfold each
 unfoldable pub cases : ℕ
-unfolding to_five from_nine nine_to_five synchronize_five word_to_nine vector_of_five to_all nine_to_all
-    synchronize_all word_to_all
+unfolding to_five from_nine nine_to_five synchronize_five word_to_nine vector_of_five to_all
+    nine_to_all synchronize_all word_to_all
 cases = 0

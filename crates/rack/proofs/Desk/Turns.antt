@@ -22,7 +22,7 @@ use Rattle.exchange.specs.Order.{format_for, awaited, awaited_last}
 use Rattle.exchange.specs.Judge.{exchange_of, at_first, is_marked, silence_heard}
 use Rattle.controller.specs.declared.state.Progress.TheVariants.{Given as GivenStage, Back}
 use Rattle.controller.specs.Control.{block_in, line_in}
-use Rattle.controller.specs.State.{Desk, desk, with_message}
+use Rattle.controller.specs.State.{Desk, with_message}
 use Rattle.controller.specs.Start.{with_order}
 use Rattle.controller.specs.Heard.{words_step, ended, silence_done, silence_met, silence_step}
 use Rattle.rack.specs.Segment.{Segment, segment, Given, Said, data_words, at_desk}

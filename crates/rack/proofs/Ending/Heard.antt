@@ -21,7 +21,14 @@ use Rattle.message.specs.declared.state.Message.{Message}
 use Rattle.message.specs.declared.state.Message.TheVariants.{Idle}
 use Rattle.message.specs.Message.{has_second}
 use Rattle.message.specs.Asked.{asked_of, asks}
-use Rattle.message.specs.Words.{own_command, drops_broadcast, is_second, in_data, word_in_stage, on_word}
+use Rattle.message.specs.Words.{
+  own_command,
+  drops_broadcast,
+  is_second,
+  in_data,
+  word_in_stage,
+  on_word,
+}
 use Rattle.terminal.specs.State.{Card}
 use Rattle.terminal.specs.Event.{word, Outcome}
 use Rattle.terminal.specs.WordStep.{word_met, word_step}

@@ -26,7 +26,7 @@ use Rattle.message.specs.Words.{own_command}
 use Rattle.terminal.specs.State.{Card, with_status, with_last, with_switches, with_message}
 use Rattle.terminal.specs.Opening.{opened_core, opening}
 use Rattle.terminal.specs.Closing.{closing, faulted, ended}
-use Rattle.terminal.specs.Event.{word, silence, opens, quietly}
+use Rattle.terminal.specs.Event.{word, opens, quietly}
 use Rattle.terminal.specs.WordStep.{word_done, word_met, word_step}
 use Rattle.terminal.specs.SilenceStep.{silence_done, silence_met, silence_step}
 use Rattle.terminal.specs.Machine.{step}
@@ -69,7 +69,8 @@ words_heard (heard ∷ words) old =
 
 -- ---- a silence
 
-silence_done_lem : (act : SilenceAct) (asked : Asked) (message : OpenMessage) (time : ℕ) (old : Card)
+silence_done_lem : (act : SilenceAct) (asked : Asked) (message : OpenMessage) (time : ℕ)
+    (old : Card)
     → (silence_done act asked message time old).card.core.station ≡ old.core.station
 unfolding silence_done faulted ended closing with_message with_status with_switches
 silence_done_lem silences.Ignore asked message time old = refl

@@ -24,6 +24,8 @@ module _ (station : ℕ) (said : Segment) where
   unfolding placed
   placed_behind lower first [] less rising =
       before lower station first said [] less (one station said)
+  placed_behind lower first (Nothing ∷ later) less rising = elim rising [ ]
+  placed_behind lower first (Given next ∷ later) less rising = elim rising [ ]
   placed_behind lower first (Said other next ∷ later) less (before _ _ _ _ _ above rising) =
       elim (dec_lt station other) [
         | yes under ↦

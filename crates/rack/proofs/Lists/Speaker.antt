@@ -37,10 +37,11 @@ module _ (line : Bool) (stamps : Stamps) (spoken : Spoken) where
     pub heard : replies_to line stamps spoken terminals ≡ with_reply (said_after (after speaker)) []
     pub only : Each (λ terminal. terminal.core.station ≡ station → terminal ≡ speaker) terminals
 
-  pub find_speaker : {Holds : Card → Type 0} (station : ℕ) {terminals : List Card}
+  pub find_speaker : (station : ℕ) {Holds : Card → Type 0} {terminals : List Card}
       → Each Holds terminals → Each (SilentElsewhere station) terminals → Different terminals
       → OnBus station terminals → Speaker Holds station terminals
   unfolding replies_to
+  find_speaker station Each.nobody silence different on-bus = elim on-bus [ ]
   find_speaker station (Each.each {terminal} {terminals} holds hold) (Each.each silent silence)
       (Different.each apart different) (here is) =
       let others : Each (λ other. other.core.station ≢ station) terminals =

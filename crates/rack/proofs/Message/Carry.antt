@@ -7,7 +7,7 @@ use Prim.Native.Nat.{ℕ, suc, ◌-◌}
 use Rattle.exchange.specs.declared.order.Order.{Order}
 use Rattle.controller.specs.declared.start.Given.TheVariants.{Nothing}
 use Rattle.controller.specs.Control.{line_in}
-use Rattle.controller.specs.State.{Desk, desk, is_idle}
+use Rattle.controller.specs.State.{Desk, is_idle}
 use Rattle.controller.specs.Start.{Started, with_order, starting}
 use Rattle.controller.specs.Actions.{start_action}
 use Rattle.rack.specs.Segment.{Segment, Spoken, Given}

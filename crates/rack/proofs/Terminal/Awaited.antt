@@ -68,7 +68,8 @@ module _ (message : OpenMessage) (old : Card) (value : ℕ) where
 module _ (message : OpenMessage) (old : Card) (value : ℕ) where
   -- what the end leaves does not hang on the second command
   ended_as_opened : (words : List ℕ) (outcome : Outcome)
-      → Ended (further Data (Command value) 0 message) words (card_at value Data message old) outcome
+      → Ended (further Data (Command value) 0 message) words (card_at value Data message old)
+      outcome
       → Ended message words old outcome
   unfolding further with_message
   ended_as_opened words outcome ended =

@@ -28,8 +28,10 @@ use Rattle.rack.proofs.Terminal.Kinds.{sends_to_one}
 -- its row, with its own count and address
 pub record Beside (row : Row) (command : ℕ) : Type 0 where
   pub fit : FitCommand command
-  pub behind : (format_of row (is_broadcast command) (words_of command)).behind ≡ (asked_of command).takes
-  pub reply : (format_of row (is_broadcast command) (words_of command)).reply ≡ (asked_of command).sends
+  pub behind : (format_of row (is_broadcast command) (words_of command)).behind
+      ≡ (asked_of command).takes
+  pub reply : (format_of row (is_broadcast command) (words_of command)).reply
+      ≡ (asked_of command).sends
   pub status : (format_of row (is_broadcast command) (words_of command)).status
       ≡ not (is_broadcast command)
 

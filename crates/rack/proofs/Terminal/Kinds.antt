@@ -118,7 +118,8 @@ broadcast_sends_none command to_all_lem =
     (beq (is_transmit command) row.transmit) code (mode_to_one code)) (λ no_mode.
     by_test SendsNone (not (is_transmit command)) (λ receives. refl) (λ transmits. refl)))
 
-pub sends_to_one : (command : ℕ) → sends_words (kind_of command) ≡ true → is_broadcast command ≡ false
+pub sends_to_one : (command : ℕ) → sends_words (kind_of command) ≡ true
+    → is_broadcast command ≡ false
 sends_to_one command sends = go (is_broadcast command) refl
   where
     go : (to_all_lem : Bool) → is_broadcast command ≡ to_all_lem → is_broadcast command ≡ false

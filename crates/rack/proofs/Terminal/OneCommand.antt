@@ -30,7 +30,8 @@ use Rattle.rack.proofs.Terminal.Opened.{
 pub opened_ends : (line joined : Bool) (command time : ℕ) (old : Card) (words : List ℕ)
     → FitCommand command → length words ≡ (asked_of command).takes
     → IsIdle old → Ready line command old → (times : ℕ → ℕ) (place silence-time : ℕ)
-    → Ended (message_of line joined command time old) words (opened_card line joined command time old)
+    → Ended (message_of line joined command time old) words
+    (opened_card line joined command time old)
     (step (silence line silence-time)
     (hears (data_words line times place words) (opened_card line joined command time old)))
 unfolding opening opened_core opened_message with_message with_last with_status

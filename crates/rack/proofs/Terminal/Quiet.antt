@@ -76,7 +76,8 @@ module _ (old : Card) (idle : old.core.message ≡ Idle) where
   unfolding hears data_words own_command
   quiet_data [] line time place = refl
   quiet_data (value ∷ values) line time place =
-      hears_quietly (data_word line value (time place)) (data_words line time (suc place) values) old
+      hears_quietly (data_word line value (time place)) (data_words line time (suc place) values)
+      old
       (quiet_word (data_word line value (time place)) refl)
       (quiet_data values line time (suc place))
 

@@ -33,7 +33,8 @@ use Rattle.rack_runs.proofs.Ready.{five_is_idle, five_is_ready}
 data May (words service link : Bool) (asks : Row) (block table : Block) (address : ℕ)
     : Type 0 where
   a_data_cell : {cell : ℕ} → words ≡ true → cell < asks.takes
-      → address ≡ word_address block (the_cell cell) → May words service link asks block table address
+      → address ≡ word_address block (the_cell cell)
+      → May words service link asks block table address
   a_service_cell : {cell : Cell} → service ≡ true → asks.block ≡ true → 58 ≤ cell.0
       → cell.0 ≤ 61 → address ≡ word_address block cell
       → May words service link asks block table address
@@ -106,7 +107,8 @@ a_message_would_change_no_data_cell : Claim false true true → ⊥
 unfolding told
 a_message_would_change_no_data_cell claim =
     let differs : ◌≡◌ {A = ℕ} 0x1111 5 =
-    (first_of (claim to_five clock (rack two_words (five ∷ [])) asked_of_five)).same_else 128 never in
+    (first_of (claim to_five clock (rack two_words (five ∷ [])) asked_of_five)).same_else 128
+    never in
     omega arith
   where
     never : May false true true (asked_of 0x2862) (the_block 2) (the_block 1) 128 → ⊥
@@ -119,7 +121,8 @@ a_message_would_change_no_service_cell : Claim true false true → ⊥
 unfolding told
 a_message_would_change_no_service_cell claim =
     let differs : ◌≡◌ {A = ℕ} 0 5 =
-    (first_of (claim to_five clock (rack two_words (five ∷ [])) asked_of_five)).same_else 187 never in
+    (first_of (claim to_five clock (rack two_words (five ∷ [])) asked_of_five)).same_else 187
+    never in
     omega arith
   where
     never : May true false true (asked_of 0x2862) (the_block 2) (the_block 1) 187 → ⊥
@@ -132,7 +135,8 @@ a_message_would_leave_the_link : Claim true true false → ⊥
 unfolding told
 a_message_would_leave_the_link claim =
     let differs : ◌≡◌ {A = ℕ} 5 2 =
-    (first_of (claim to_five clock (rack two_words (five ∷ [])) asked_of_five)).same_else 67 never in
+    (first_of (claim to_five clock (rack two_words (five ∷ [])) asked_of_five)).same_else 67
+    never in
     omega arith
   where
     never : May true true false (asked_of 0x2862) (the_block 2) (the_block 1) 67 → ⊥

@@ -82,7 +82,8 @@ the_table_would_keep_a_word : ClaimWith EvenTable → ⊥
 unfolding told table_five
 the_table_would_keep_a_word claim =
     let differs : ◌≡◌ {A = ℕ} 5 0x4444 =
-    (first_of (claim (order_in ToTerminal false four_words) clock (rack four_words (table_five ∷ []))
+    (first_of (claim (order_in ToTerminal false four_words) clock
+    (rack four_words (table_five ∷ []))
     (asked_of_one (order_in ToTerminal false four_words) four_words table_five
     (starts_by ToTerminal false four_words refl refl refl)
     (record { row = refl; broadcast = refl }) (λ one. here refl) one_is_different

@@ -107,8 +107,8 @@ module _ (order : Order) (clock : ℕ → Stamps) (old : Rack) (first : FirstTur
   abbrev then : List Card
   then = turn_all line (clock first_turn) (said_first order old) old.terminals
 
-  each_quiet : Each (λ terminal. turn_of line (clock second_turn) answer terminal ≡ quietly terminal)
-      then
+  each_quiet : Each (λ terminal.
+      turn_of line (clock second_turn) answer terminal ≡ quietly terminal) then
   each_quiet =
       each_after line (clock first_turn) (said_first order old)
       (each_so (λ terminal both.

@@ -65,7 +65,8 @@ module _ (order : Order) (clock : ℕ → Stamps) (old : Rack) (first : FirstTur
   -- what a terminal behind the commands says to the words, if it is to receive them
   record Replies (terminal : Card) : Type 0 where
     last : ℕ
-    says : said_after (turn_of line (clock second_turn) (said_second order clock old first) terminal)
+    says : said_after
+        (turn_of line (clock second_turn) (said_second order clock old first) terminal)
         ≡ Said terminal.core.station (segment last Absent [])
     home : address_of last ≡ terminal.core.station
     low : terminal.core.station ≤ last_station
