@@ -1,7 +1,7 @@
 /* A tray recording, run over a card memory that the caller lends.
 
    docs/EMBEDDING.md says what each parameter must be, what is proved and what is not. The library is
-   target/staticlib/liblistrabor.a, for x86-64, which `rt staticlib listrabor` proves and writes. */
+   target/staticlib/liblistrabor.a, for x86-64, which tests/library.py proves and writes. */
 #ifndef LISTRABOR_H
 #define LISTRABOR_H
 

@@ -133,29 +133,31 @@ tray=./tray
 
 # ---- the first call proves and builds, later ones only where a source is newer; an rt that only
 # ---- copies stands in for the kit's, in a repository of its own
-kit=${RATTLE_HOME:-$(dirname "$(dirname "$(readlink -f "$(command -v rt)")")")}
 mkdir -p "$room/bin" "$room/own/crates/some" "$room/own/examples"
+for name in tray_run controller_run controller_cells; do mkdir "$room/own/crates/$name"; done
 cp tray "$room/own"
 cp examples/tray.bin "$room/own/examples"
 touch "$room/own/crates.txt" "$room/own/crates/some/source"
 cat >"$room/bin/rt" <<END_OF_RT
 #!/bin/sh
-cat >eaten
-echo "rt: \$*"
-[ ! -e crates/some/fault ] || exit 1
-mkdir -p target/bin && cp "$PWD/target/bin/\$2" target/bin
+mkdir -p out
+cat >out/eaten
+name=\$(basename "\$PWD")
+echo "rt: \$* \$name" >&2
+[ ! -e ../some/fault ] || exit 1
+cp "$PWD/target/bin/\$name" out
 END_OF_RT
 chmod +x "$room/bin/rt"
-tray="env RATTLE_HOME=$kit PATH=$room/bin:$PATH $room/own/tray"
+tray="env PATH=$room/bin:$PATH $room/own/tray"
 
-# builds FILE PROGRAM WORDS..: the file is printed once rt check PROGRAM was called
+# builds FILE PROGRAM WORDS..: the file is printed once rt run was called for PROGRAM
 builds() {
     wanted=$1
     program=$2
     shift 2
     call "$@"
     if ! cmp -s "$wanted" "$room/printed" || ! grep -q '^tray: proving' "$room/said" ||
-        ! grep -q "^rt: check $program\$" "$room/said"; then
+        ! grep -q "^rt: run $program\$" "$room/said"; then
         wrong "tray $* that builds: $(cat "$room/said")"
     fi
 }
@@ -172,7 +174,7 @@ builds examples/orders.lines controller_run control examples/orders.bin
 touch "$room/own/crates/some/fault"
 call example
 if [ "$status" -ne 2 ] || [ -s "$room/printed" ] ||
-    ! grep -q '^tray: rt check tray_run failed' "$room/said"; then
+    ! grep -q '^tray: rt run of tray_run failed' "$room/said"; then
     wrong "a failed proof left $status: $(cat "$room/said")"
 fi
 tray=./tray

@@ -10,6 +10,7 @@ import concurrent.futures
 import os
 import random
 import re
+import shutil
 import subprocess
 import sys
 
@@ -29,7 +30,7 @@ def built(source):
     program = ROOM / source.stem
     subprocess.run([programs.compiler(), *STRICT, "-I", programs.ROOT / "include", "-o", program,
                     source, ARCHIVE], check=True)
-    return programs.for_x86_64(program)
+    return [str(program)]
 
 
 def shown_output():
@@ -59,12 +60,15 @@ def wanted(recording):
 
 
 def main():
-    archive = subprocess.run(["rt", "staticlib", "listrabor"], cwd=programs.ROOT, text=True,
+    crate = programs.ROOT / "crates" / "listrabor_c"
+    archive = subprocess.run(["rt", "lib"], cwd=crate, text=True,
                              stdout=subprocess.PIPE, stderr=subprocess.STDOUT)
     if archive.returncode != 0:
-        print(f"FAILED rt staticlib listrabor:\n{archive.stdout}")
+        print(f"FAILED rt lib in {crate}:\n{archive.stdout}")
         return 1
-    ROOM.mkdir(exist_ok=True)
+    ROOM.mkdir(parents=True, exist_ok=True)
+    ARCHIVE.parent.mkdir(exist_ok=True)
+    shutil.copy(crate / "out" / "liblistrabor_c.a", ARCHIVE)
     example = subprocess.run(built(programs.ROOT / "examples" / "embed.c"), stdout=subprocess.PIPE)
     failures = []
     if (example.returncode, example.stdout.decode()) != (0, shown_output()):

@@ -1,14 +1,10 @@
 """The programs under test, and how each is started: a program is the list of its words.
-
-The compiled programs are for x86-64. They run by the kit's loader, on another processor under the
-kit's emulator, as ./tray runs them.
 """
 
 import array
 import fcntl
 import os
 import pathlib
-import platform
 import shutil
 import subprocess
 import tempfile
@@ -17,38 +13,19 @@ import termios
 TESTS = pathlib.Path(__file__).resolve().parent
 ROOT = TESTS.parent
 
-# what the emulator is told by its variables would not be what a user sees
-for name in [name for name in os.environ if name.startswith("QEMU_")]:
-    del os.environ[name]
-
-
-def for_x86_64(path):
-    """The words that start an x86-64 program on this processor."""
-    rt = shutil.which("rt")
-    if rt is None:
-        raise SystemExit("rt of the Rattle kit is not on the PATH")
-    kit = pathlib.Path(os.environ.get("RATTLE_HOME") or pathlib.Path(rt).resolve().parent.parent)
-    tools = kit / "on" / platform.machine() / "toolchain"
-    emulator = tools / "bin" / "qemu-x86_64"
-    words = [tools / "lib" / "ld-linux-x86-64.so.2", "--library-path", tools / "lib", path]
-    return [str(word) for word in ([emulator] if emulator.exists() else []) + words]
-
 
 def compiler():
-    """A C compiler for x86-64."""
-    at_home = platform.machine() == "x86_64"
-    name = "gcc" if at_home else "x86_64-linux-gnu-gcc"
-    if shutil.which(name) is None:
-        package = "gcc" if at_home else "gcc-x86-64-linux-gnu"
-        raise SystemExit(f"no {name} here: apt-get install -y {package}")
-    return name
+    """A C compiler."""
+    if shutil.which("gcc") is None:
+        raise SystemExit("no gcc here: apt-get install -y gcc")
+    return "gcc"
 
 
 def compiled(name):
     path = ROOT / "target" / "bin" / name
     if not path.exists():
-        raise SystemExit(f"target/bin/{name} is not there: rt check {name}")
-    return for_x86_64(path)
+        raise SystemExit(f"target/bin/{name} is not there: ./tray builds it")
+    return [str(path)]
 
 
 def peer(*words, build="peer/peer"):

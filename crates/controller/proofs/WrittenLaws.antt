@@ -16,7 +16,6 @@ use Rattle.formats.specs.declared.code.Coded.{Coded}
 use Rattle.formats.specs.declared.code.Coded.TheVariants.{Format, Lacking}
 use Rattle.formats.specs.Row.{highest_cell}
 use Rattle.formats.specs.Code.{coded_by}
-use Rattle.exchange.specs.declared.order.Order.{Order}
 use Rattle.exchange.specs.declared.judge.WordAct.{WordAct}
 use Rattle.exchange.specs.declared.judge.WordAct.TheVariants.{Fault, Take}
 use Rattle.exchange.specs.declared.judge.SilenceAct.{SilenceAct}

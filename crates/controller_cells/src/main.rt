@@ -7,29 +7,30 @@ mod state;
 
 use desk::Run;
 use desk_stream;
-use io;
-use libc::STDOUT_FILENO;
 use shown::cells;
+use std::io::Write;
 
-// State and cells, in one write. There is room for both (`nothing-is-cut`): the state takes less
+// State and cells, in one write. There is room for both (`nothing_is_cut`): the state takes less
 // than 300 bytes, and 16,384 cells take 163,840, at 10 bytes a line.
-fn print_left(run: Run, ram: &[u16; 16384]) {
+fn print_left<O: Write>(output: &mut O, run: Run, ram: &[u16; 16384]) {
     let memory: &[u16] = ram;
     let mut space: [u8; 172032] = [0; 172032];
     let out: &mut [u8] = &mut space;
     let next = state::put_state(out, 0, run);
     let end = cells::put_cells(out, next, memory);
     let text = &out[..];
-    io::write_all(STDOUT_FILENO, &text[0..end]);
+    output.write_all(&text[0..end]).is_ok();
 }
 
-fn main() {
+fn main(rt: HostRuntime) {
+    let mut input = rt.stdin();
+    let mut output = rt.stdout();
     let mut ram: [u16; 16384] = [0; 16384];
-    let done = desk_stream::run_input(&mut ram);
+    let done = desk_stream::run_input(&mut input, &mut output, &mut ram);
     // of a run that broke off, by a read or a write that failed, nothing more is printed
     if !done.whole {
         return;
     }
     let run = done.run;
-    print_left(run, &ram);
+    print_left(&mut output, run, &ram);
 }

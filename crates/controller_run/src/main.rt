@@ -3,7 +3,9 @@
 
 use desk_stream;
 
-fn main() {
+fn main(rt: HostRuntime) {
+    let mut input = rt.stdin();
+    let mut output = rt.stdout();
     let mut ram: [u16; 16384] = [0; 16384];
-    desk_stream::run_input(&mut ram);
+    desk_stream::run_input(&mut input, &mut output, &mut ram);
 }

@@ -8,7 +8,7 @@ ghost use Rattle.desk.specs.AsCoded.Held.{run_of, held_at_start};
 
 use desk;
 use desk::Run;
-use io;
+use std::io::{Read, Write};
 use stream::Pump;
 
 // What a run leaves, and whether it is whole: it came to its own end, and the operating system took
@@ -19,9 +19,15 @@ pub struct Done {
     pub whole: bool,
 }
 
-// Runs the recording on standard input from its start, over what the lent memory holds. A turn is a
+// Runs the recording on the input from its start, over what the lent memory holds. A turn is a
 // call and what it leaves to do.
-fn run_pieces(ram: &mut [u16], window: &mut [u8], out: &mut [u8]) -> Done
+fn run_pieces<I: Read, O: Write>(
+    input: &mut I,
+    output: &mut O,
+    ram: &mut [u16],
+    window: &mut [u8],
+    out: &mut [u8],
+) -> Done
     requires { Buffers 0 window.old out.old }
     ensures { Came desk_course (run_of held_at_start ram.old)
         (run_of result.run ram.new) result.whole }
@@ -45,7 +51,7 @@ fn run_pieces(ram: &mut [u16], window: &mut [u8], out: &mut [u8]) -> Done
         let passed = desk::run_window(run, ram, &window[0..have], out, pump.ended);
         run = passed.run;
         let stop = passed.stop;
-        pump = pump.settle(window, out, passed.at, passed.put, stop);
+        pump = pump.settle(input, output, window, out, passed.at, passed.put, stop);
         turns -= 1;
     }
     Done {
@@ -54,13 +60,17 @@ fn run_pieces(ram: &mut [u16], window: &mut [u8], out: &mut [u8]) -> Done
     }
 }
 
-// Runs the recording on standard input over the lent memory, which starts zero, whatever it held.
-pub fn run_input(ram: &mut [u16; 16384]) -> Done
+// Runs the recording on the input over the lent memory, which starts zero, whatever it held.
+pub fn run_input<I: Read, O: Write>(
+    input: &mut I,
+    output: &mut O,
+    ram: &mut [u16; 16384],
+) -> Done
     ensures { Came desk_course run_at_start
         (run_of result.run ram.new) result.whole }
 {
     *ram = [0; 16384];
-    let mut window = io::large_buffer();
-    let mut out = io::large_buffer();
-    run_pieces(ram, &mut window, &mut out)
+    let mut window: [u8; 65536] = [0; 65536];
+    let mut out: [u8; 65536] = [0; 65536];
+    run_pieces(input, output, ram, &mut window, &mut out)
 }

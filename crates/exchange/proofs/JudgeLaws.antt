@@ -21,7 +21,6 @@ use Rattle.exchange.specs.declared.state.Exchange.{Exchange}
 use Rattle.exchange.specs.declared.judge.WordAct.{WordAct}
 use Rattle.exchange.specs.declared.judge.WordAct.TheVariants.{Take}
 use Rattle.exchange.specs.declared.judge.WordAct.TheVariants as heard
-use Rattle.exchange.specs.declared.judge.SilenceAct.{SilenceAct}
 use Rattle.exchange.specs.declared.judge.SilenceAct.TheVariants.{GoOn, End}
 use Rattle.exchange.specs.declared.judge.SilenceAct.TheVariants as silent
 use Rattle.exchange.specs.Order.{asking_in, format_for}

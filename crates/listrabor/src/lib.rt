@@ -1,6 +1,5 @@
 // The library for other programs: a whole recording over a card memory and into a buffer that the
-// caller lends. `include/listrabor.h` declares the same for C; nothing checks the two against each
-// other.
+// caller lends. `listrabor_c` hands the same out to C.
 #![tactic(auto)]
 
 ghost use Rattle.std.specs.Prelude.{◌≡◌};
@@ -18,8 +17,7 @@ const LINE_BYTES: usize = 21;
 const LONGEST: usize = 878416384462359592;
 
 // How long a buffer has to be for a recording of so many bytes.
-#[unsafe(no_mangle)]
-pub extern "C" fn listrabor_room(bytes: usize) -> usize
+pub fn listrabor_room(bytes: usize) -> usize
     ensures { result ≡ room_for bytes }
 {
     if LONGEST < bytes {
@@ -30,8 +28,7 @@ pub extern "C" fn listrabor_room(bytes: usize) -> usize
 
 // The number by which the bytes of a recording, the words of a RAM and the room of a buffer are
 // refused, and 0 where they can be used.
-#[unsafe(no_mangle)]
-pub extern "C" fn listrabor_refusal(bytes: usize, words: usize, room: usize) -> u32
+pub fn listrabor_refusal(bytes: usize, words: usize, room: usize) -> u32
     ensures { result ≡ size_refusal bytes words room }
 {
     if words != CARD_WORDS {
@@ -48,8 +45,7 @@ pub extern "C" fn listrabor_refusal(bytes: usize, words: usize, room: usize) -> 
 
 // Runs a recording. Answers how many bytes of text stand in the buffer then: none where a size is
 // refused, and nothing is touched then.
-#[unsafe(no_mangle)]
-pub extern "C" fn listrabor_run(recording: &[u8], ram: &mut [u16], out: &mut [u8]) -> usize
+pub fn listrabor_run(recording: &[u8], ram: &mut [u16], out: &mut [u8]) -> usize
     ensures { lent result ram.new out.new
         ≡ lent_run recording.now ram.old out.old }
 {

@@ -121,22 +121,38 @@ record Between (seen : Seen) (bytes : List ℕ) (first second : List Valued) (le
   sooner : TakesFields seen bytes first between
   later : TakesFields (seen_after_all first seen) between second left
 
+-- the first field that is taken, and the reader behind it
+record Led (seen : Seen) (bytes : List ℕ) (told : Valued) (rest : List Valued) (left : List ℕ) :
+    Type 0 where
+  field : Field
+  next : ℕ
+  is : read_at bytes 0 seen ≡ Taken field next
+  tells : valued_at bytes field ≡ told
+  then : TakesFields (seen_after field seen) (drop next bytes) rest left
+
+led : {seen : Seen} {bytes left : List ℕ} {told : Valued} {rest : List Valued}
+    → TakesFields seen bytes (told ∷ rest) left → Led seen bytes told rest left
+led (a_field {field = field} {next = next} is then) =
+    record { field = field; next = next; is = is; tells = refl; then = then }
+
 stands_between : {seen : Seen} {bytes left : List ℕ} (first second : List Valued)
     → TakesFields seen bytes (first ++ second) left → Between seen bytes first second left
 unfolding seen_after_all
 stands_between {bytes = bytes} [] second takes =
     record { between = bytes; sooner = no_more; later = takes }
-stands_between {seen = seen} {bytes = bytes} {left = left} (told ∷ first) second
-    (a_field is then) =
-    let rest = stands_between first second then in
-    record {
+stands_between {seen = seen} {bytes = bytes} {left = left} (told ∷ first) second takes =
+    let behind = led takes in
+    let rest =
+    stands_between {seen = seen_after behind.field seen} {bytes = drop behind.next bytes} {left = left} first second behind.then in
+    subst (λ (any : Valued). Between seen bytes (any ∷ first) second left) behind.tells
+    (record {
       between = rest.between;
-      sooner = a_field is rest.sooner;
+      sooner = a_field behind.is rest.sooner;
       later =
           subst
           (λ (after : Seen). TakesFields (seen_after_all first after) rest.between second left)
-          (sym (seen_by_values bytes seen is)) rest.later;
-    }
+          (sym (seen_by_values bytes seen behind.is)) rest.later;
+    })
 
 pub cut_at_field : {seen : Seen} {bytes : List ℕ} (first second : List Valued)
     → Accepted seen bytes (first ++ second) → Cut seen bytes first second

@@ -12,7 +12,7 @@ use lib.Seq.{take_all}
 use Rattle.bits.specs.Bit.{weight_of}
 use Rattle.lines.specs.Digits.{hex_byte, hex_word, decimal}
 use Rattle.lines.specs.Lines.{blank, newline}
-use Rattle.lines.specs.Written.{Put, put, stored}
+use Rattle.lines.specs.Written.{Put, stored}
 use Rattle.lines.proofs.DecimalLaws.{length_decimal}
 use Rattle.lines.proofs.Lengths.{length_hex_byte, length_hex_word}
 use Rattle.lines.proofs.WrittenLaws.{in_room, take_written}

@@ -15,11 +15,9 @@ ghost use Rattle.stream.specs.AsCoded.Turns.{
   Settled,
 };
 
-use io;
-use libc;
-use libc::{STDIN_FILENO, STDOUT_FILENO};
 use pieces;
 use pieces::Stop;
+use std::io::{Read, Write};
 
 // How far a program has come beside its run: the bytes in its window, whether the input has ended,
 // whether the program has, and whether by the run's own end with every line taken.
@@ -31,15 +29,14 @@ pub struct Pump {
     pub whole: bool,
 }
 
-// What a read leaves: how many bytes are in the window, and what the C library answered.
+// What a read leaves: how many bytes are in the window, and what it answered.
 #[derive(Clone, Copy)]
 struct Heard {
     have: usize,
     answer: isize,
 }
 
-// The C library answers -1 where a read failed, 0 where the input has ended, else how many bytes
-// came.
+// The answer is -1 where a read failed, 0 where the input has ended, else how many bytes came.
 fn is_failure(answer: isize) -> bool
     ensures { result ≡ is_failure answer }
 {
@@ -47,22 +44,26 @@ fn is_failure(answer: isize) -> bool
 }
 
 // One more piece behind the bytes that are there.
-fn read_behind(window: &mut [u8], have: usize) -> Heard
+fn read_behind<I: Read>(input: &mut I, window: &mut [u8], have: usize) -> Heard
     requires { have < length window.old }
     ensures { Grown window.old have window.new result }
 {
     let rest = &mut window[have..];
-    let answer = libc::read(STDIN_FILENO, rest);
-    let count = io::count(answer, rest);
-    Heard {
-        have: have + count,
-        answer: answer,
+    match input.read(rest) {
+        Ok(count) => Heard {
+            have: have + count,
+            answer: count as isize,
+        },
+        Err(_) => Heard {
+            have: have,
+            answer: -1,
+        },
     }
 }
 
 // Writes the lines of a call. Answers whether that failed, which it cannot where there are none.
 // Lines that the buffer does not have are not written.
-fn fails_to_write(out: &[u8], put: usize) -> bool
+fn fails_to_write<O: Write>(output: &mut O, out: &[u8], put: usize) -> bool
     ensures { result ≡ true → put ≢ 0 }
 {
     if put == 0 {
@@ -71,7 +72,7 @@ fn fails_to_write(out: &[u8], put: usize) -> bool
     if out.len() < put {
         return true;
     }
-    !io::write_all(STDOUT_FILENO, &out[0..put])
+    output.write_all(&out[0..put]).is_err()
 }
 
 impl Pump {
@@ -90,12 +91,12 @@ impl Pump {
     }
 
     // There is room to read into: a read without room would look like the end of the input.
-    fn read_on(self, window: &mut [u8]) -> Pump
+    fn read_on<I: Read>(self, input: &mut I, window: &mut [u8]) -> Pump
         requires { self.have < length window.old }
         ensures { ReadOn self window.old result window.new }
     {
         let have = self.have;
-        let heard = read_behind(window, have);
+        let heard = read_behind(input, window, have);
         self.after_read(heard)
     }
 
@@ -115,7 +116,7 @@ impl Pump {
     // Nothing is left to do where the lines of a call were not taken, even if they were the last; a
     // read where it needs bytes. No call needs bytes with a full window, and one that did would
     // break the run off.
-    fn after_call(self, window: &mut [u8], stop: Stop) -> Pump
+    fn after_call<I: Read>(self, input: &mut I, window: &mut [u8], stop: Stop) -> Pump
         ensures { AfterCall self window.old stop result window.new }
     {
         if self.over {
@@ -129,18 +130,27 @@ impl Pump {
                 if window.len() <= self.have {
                     return self.ending(false);
                 }
-                self.read_on(window)
+                self.read_on(input, window)
             }
         }
     }
 
     // What a call leaves to do. Its lines are written, and a write that fails ends the program. The
     // bytes that it did not take stay in the window.
-    pub fn settle(self, window: &mut [u8], out: &[u8], at: usize, put: usize, stop: Stop) -> Pump
+    pub fn settle<I: Read, O: Write>(
+        self,
+        input: &mut I,
+        output: &mut O,
+        window: &mut [u8],
+        out: &[u8],
+        at: usize,
+        put: usize,
+        stop: Stop,
+    ) -> Pump
         ensures { Settled self window.old at put stop
             result window.new }
     {
-        let failed = fails_to_write(out, put);
+        let failed = fails_to_write(output, out, put);
         let left = pieces::keep_rest(window, at, self.have);
         let next = Pump {
             have: left,
@@ -148,6 +158,6 @@ impl Pump {
             over: failed,
             whole: false,
         };
-        next.after_call(window, stop)
+        next.after_call(input, window, stop)
     }
 }

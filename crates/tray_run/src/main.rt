@@ -3,8 +3,10 @@
 
 use tray_stream;
 
-fn main() {
+fn main(rt: HostRuntime) {
+    let mut input = rt.stdin();
+    let mut output = rt.stdout();
     let mut places: [u16; 256] = [0; 256];
     let mut ram: [u16; 16384] = [0; 16384];
-    tray_stream::run_input(&mut places, &mut ram);
+    tray_stream::run_input(&mut input, &mut output, &mut places, &mut ram);
 }

@@ -6,7 +6,7 @@ ghost use Rattle.stream.specs.AsCoded.Turns.{Buffers};
 ghost use Rattle.tray.specs.Run.{tray_at_start, tray_course};
 ghost use Rattle.tray.specs.AsCoded.Held.{tray_of, held_at_start};
 
-use io;
+use std::io::{Read, Write};
 use stream::Pump;
 use tray;
 use tray::Tray;
@@ -19,9 +19,16 @@ pub struct Done {
     pub whole: bool,
 }
 
-// Runs the recording on standard input from its start, over what the lent memory holds. A turn is a
+// Runs the recording on the input from its start, over what the lent memory holds. A turn is a
 // call and what it leaves to do.
-fn run_pieces(places: &mut [u16; 256], ram: &mut [u16], window: &mut [u8], out: &mut [u8]) -> Done
+fn run_pieces<I: Read, O: Write>(
+    input: &mut I,
+    output: &mut O,
+    places: &mut [u16; 256],
+    ram: &mut [u16],
+    window: &mut [u8],
+    out: &mut [u8],
+) -> Done
     requires { Buffers 0 window.old out.old }
     ensures { Came tray_course
         (tray_of held_at_start places.old ram.old)
@@ -47,7 +54,7 @@ fn run_pieces(places: &mut [u16; 256], ram: &mut [u16], window: &mut [u8], out: 
         let passed = tray::run_window(tray, places, ram, &window[0..have], out, pump.ended);
         tray = passed.tray;
         let stop = passed.stop;
-        pump = pump.settle(window, out, passed.at, passed.put, stop);
+        pump = pump.settle(input, output, window, out, passed.at, passed.put, stop);
         turns -= 1;
     }
     Done {
@@ -56,15 +63,20 @@ fn run_pieces(places: &mut [u16; 256], ram: &mut [u16], window: &mut [u8], out: 
     }
 }
 
-// Runs the recording on standard input over the lent memory, which starts zero, whatever it held.
-pub fn run_input(places: &mut [u16; 256], ram: &mut [u16; 16384]) -> Done
+// Runs the recording on the input over the lent memory, which starts zero, whatever it held.
+pub fn run_input<I: Read, O: Write>(
+    input: &mut I,
+    output: &mut O,
+    places: &mut [u16; 256],
+    ram: &mut [u16; 16384],
+) -> Done
     ensures { Came tray_course tray_at_start
         (tray_of result.tray places.new ram.new)
         result.whole }
 {
     *places = [0; 256];
     *ram = [0; 16384];
-    let mut window = io::large_buffer();
-    let mut out = io::large_buffer();
-    run_pieces(places, ram, &mut window, &mut out)
+    let mut window: [u8; 65536] = [0; 65536];
+    let mut out: [u8; 65536] = [0; 65536];
+    run_pieces(input, output, places, ram, &mut window, &mut out)
 }

@@ -13,7 +13,6 @@ use actions::{Answered, Done, Terminal};
 use card::place::{Block, CARD_BLOCKS};
 use card::sent;
 use check;
-use io;
 use queue::Ring;
 use terminal::state::{Core, Held};
 
@@ -132,7 +131,7 @@ fn put_done(out: &mut [u8], made: Done, place: u16) -> usize {
 
 // Whether a call made this of the terminal, and left this of the RAM.
 fn is_left(made: Done, ram: &[u16], place: u16, wanted: &[u8]) -> bool {
-    let mut bytes = io::buffer();
+    let mut bytes: [u8; 4096] = [0; 4096];
     let cells = put_done(&mut bytes, made, place);
     let end = notation::put_others(&mut bytes, cells, ram, GIVEN);
     check::same(notation::part(&bytes, 0, end), wanted)
@@ -155,7 +154,7 @@ fn leaves(row: &[u8], wanted: &[u8]) -> bool {
 
 // Whether a case comes out as it should, behind what its group begins with.
 pub(crate) fn holds(before: &[u8], text: &[u8]) -> bool {
-    let mut bytes = io::buffer();
+    let mut bytes: [u8; 4096] = [0; 4096];
     let sign = notation::place_of(text, 0, b'=');
     let end = notation::place_of(text, sign, b'#');
     let start = notation::read_hex(before, &mut bytes, 0);

@@ -1,6 +1,8 @@
 // The walk of the cases: group by group, and case by case within a group.
 use crate::report::Score;
 use crate::{calls, notation, recordings, report};
+use std::io;
+use std::io::Write;
 
 // Whether a case of a group comes out right. One of a kind in capitals has something wrong in it,
 // and must differ. A kind that is not known has no case that is right.
@@ -15,7 +17,13 @@ fn is_right(group: &[u8], before: &[u8], text: &[u8]) -> bool {
 }
 
 // The cases of a group, each behind what comes before them.
-fn run_cases(name: &[u8], text: &[u8], first: usize, before: &[u8]) -> Score {
+fn run_cases<O: Write>(
+    output: &mut O,
+    name: &[u8],
+    text: &[u8],
+    first: usize,
+    before: &[u8],
+) -> io::Result<Score> {
     let mut score = Score::none();
     let mut at = first;
     let mut left = text.len();
@@ -25,25 +33,25 @@ fn run_cases(name: &[u8], text: &[u8], first: usize, before: &[u8]) -> Score {
         }
         let end = notation::after(text, at, b'*');
         let right = is_right(text, before, notation::part(text, at, end));
-        score = report::judge(score, name, right);
+        score = report::judge(output, score, name, right)?;
         at = end;
         left -= 1;
     }
-    score
+    Ok(score)
 }
 
 // The group of a text that begins with its kind, a blank and its name.
-fn run_group(text: &[u8]) -> Score {
+fn run_group<O: Write>(output: &mut O, text: &[u8]) -> io::Result<Score> {
     let name = notation::part(text, 2, notation::place_of(text, 2, b'\n'));
     let first = notation::after(text, 0, b'*');
     let before = notation::part(text, notation::after(text, 0, b'^'), first);
-    let score = run_cases(name, text, first, before);
-    report::print_score(name, score);
-    score
+    let score = run_cases(output, name, text, first, before)?;
+    report::print_score(output, name, score)?;
+    Ok(score)
 }
 
 // Every group of a text.
-pub(crate) fn run(text: &[u8]) -> Score {
+pub(crate) fn run<O: Write>(output: &mut O, text: &[u8]) -> io::Result<Score> {
     let mut score = Score::none();
     let mut at = notation::after(text, 0, b'@');
     let mut left = text.len();
@@ -52,9 +60,9 @@ pub(crate) fn run(text: &[u8]) -> Score {
             break;
         }
         let end = notation::after(text, at, b'@');
-        score = score.plus(run_group(notation::part(text, at, end)));
+        score = score.plus(run_group(output, notation::part(text, at, end))?);
         at = end;
         left -= 1;
     }
-    score
+    Ok(score)
 }

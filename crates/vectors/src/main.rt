@@ -12,14 +12,28 @@ mod notation;
 mod recordings;
 mod report;
 
-use io;
-use libc::STDIN_FILENO;
+use std::io;
+use std::io::Read;
+
+// Reads until the text is full or the input has ended, and answers how many bytes came.
+fn read_full<I: Read>(input: &mut I, text: &mut [u8]) -> io::Result<usize> {
+    let mut size = 0;
+    while size < text.len() {
+        let count = input.read(&mut text[size..])?;
+        if count == 0 {
+            break;
+        }
+        size += count;
+    }
+    Ok(size)
+}
 
 // A text of more bytes is cut, and the counts tell.
-fn main() {
+fn main(rt: HostRuntime) -> io::Result<()> {
     let mut bytes: [u8; 524288] = [0; 524288];
     let text: &mut [u8] = &mut bytes;
-    let size = io::read_full(STDIN_FILENO, text);
-    let all = groups::run(notation::part(text, 0, size));
-    report::print_score(b"vectors", all);
+    let size = read_full(&mut rt.stdin(), text)?;
+    let mut output = rt.stdout();
+    let all = groups::run(&mut output, notation::part(text, 0, size))?;
+    report::print_score(&mut output, b"vectors", all)
 }

@@ -2,7 +2,6 @@
 // compared.
 use crate::notation;
 use check;
-use io;
 use message::state::{Message, Stage};
 use queue::Ring;
 use terminal::state::{Core, Held};
@@ -75,7 +74,7 @@ fn run_recording(recording: &[u8], out: &mut [u8]) -> usize {
 
 // Whether a recording prints these lines, and leaves this.
 fn leaves(recording: &[u8], lines: &[u8], wanted: &[u8]) -> bool {
-    let mut bytes = io::large_buffer();
+    let mut bytes: [u8; 65536] = [0; 65536];
     let size = run_recording(recording, &mut bytes);
     let end = lines.len();
     check::same(notation::part(&bytes, 0, end), lines)
@@ -84,7 +83,7 @@ fn leaves(recording: &[u8], lines: &[u8], wanted: &[u8]) -> bool {
 
 // Whether a case comes out as it should, behind what its group begins with.
 pub(crate) fn holds(before: &[u8], text: &[u8]) -> bool {
-    let mut bytes = io::large_buffer();
+    let mut bytes: [u8; 65536] = [0; 65536];
     let title = notation::after(text, 0, b'\n');
     let sign = notation::place_of(text, title, b'>');
     let lines = notation::after(text, sign, b'\n');

@@ -1,7 +1,6 @@
 // What the program prints, and the count of cases.
-use io;
-use libc::STDOUT_FILENO;
-use std::num;
+use std::io::Write;
+use std::{io, num};
 
 // How many cases were tried, and how many came out as they should.
 #[derive(Clone, Copy)]
@@ -24,29 +23,32 @@ impl Score {
 }
 
 // A group's name, a number, and what follows it.
-fn print(name: &[u8], number: u64, rest: &[u8]) {
-    io::write_all(STDOUT_FILENO, name);
-    io::write_all(STDOUT_FILENO, b" ");
-    io::print_decimal(STDOUT_FILENO, number);
-    io::write_all(STDOUT_FILENO, rest);
+fn print<O: Write>(output: &mut O, name: &[u8], number: u64, rest: &[u8]) -> io::Result<()> {
+    output.write_all(name)?;
+    write!(output, " {number}")?;
+    output.write_all(rest)
 }
 
 // The line of a group, as `rules 31 of 31`.
-pub(crate) fn print_score(name: &[u8], score: Score) {
-    print(name, score.right, b" of ");
-    io::print_decimal(STDOUT_FILENO, score.tried);
-    io::write_all(STDOUT_FILENO, b"\n");
+pub(crate) fn print_score<O: Write>(output: &mut O, name: &[u8], score: Score) -> io::Result<()> {
+    print(output, name, score.right, b" of ")?;
+    writeln!(output, "{}", score.tried)
 }
 
 // One case more. One that differs has a line, as `rules 7 differs`: cases are counted from 1 within
 // their group.
-pub(crate) fn judge(score: Score, name: &[u8], right: bool) -> Score {
+pub(crate) fn judge<O: Write>(
+    output: &mut O,
+    score: Score,
+    name: &[u8],
+    right: bool,
+) -> io::Result<Score> {
     let next = score.plus(Score {
         right: right as u64,
         tried: 1,
     });
     if !right {
-        print(name, next.tried, b" differs\n");
+        print(output, name, next.tried, b" differs\n")?;
     }
-    next
+    Ok(next)
 }

@@ -3,7 +3,7 @@ use Rattle.std.specs.Prelude.{◌≡◌, ℕ, ◌*◌, ◌≤◌, false, List}
 use Rattle.bus.specs.Limits.{all_stations}
 use Rattle.card.specs.Memory.{the_block}
 use Rattle.queue.specs.Queue.{ring_of}
-use Rattle.terminal.specs.State.{card, card_of, core_at_setup}
+use Rattle.terminal.specs.State.{card_of, core_at_setup}
 use Rattle.recording.specs.declared.field.Field.{Field}
 use Rattle.recording.specs.declared.field.Field.TheVariants.{HostWrite}
 use Rattle.recording.specs.Bytes.{bytes_left}

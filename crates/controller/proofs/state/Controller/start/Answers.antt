@@ -1,0 +1,10 @@
+-- `controller::state::Controller::start` meets its contract, by its refusals. Assumes nothing.
+use borrow.Author.Rules.{rules}
+use Rattle.controller.proofs.ActionLaws.{answers}
+use Rattle.controller.proofs.state.Controller.start.Goals as goal
+
+pub returns-then-ram-ne-DESK_WORDS : goal.returns-then-ram-ne-DESK_WORDS
+returns-then-ram-ne-DESK_WORDS c = search (rules, answers)
+
+pub returns : goal.returns
+returns c = search (rules, answers)

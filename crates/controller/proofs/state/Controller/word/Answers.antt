@@ -1,0 +1,13 @@
+-- `controller::state::Controller::word` meets its contract, by its refusals. Assumes nothing.
+use borrow.Author.Rules.{rules}
+use Rattle.controller.proofs.ActionLaws.{answers}
+use Rattle.controller.proofs.state.Controller.word.Goals as goal
+
+pub returns-then-ram-ne-DESK_WORDS : goal.returns-then-ram-ne-DESK_WORDS
+returns-then-ram-ne-DESK_WORDS c = search (rules, answers)
+
+pub returns-then-marks-gt-ALL_MARKS : goal.returns-then-marks-gt-ALL_MARKS
+returns-then-marks-gt-ALL_MARKS c = search (rules, answers)
+
+pub returns : goal.returns
+returns c = search (rules, answers)

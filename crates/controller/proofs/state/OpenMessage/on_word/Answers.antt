@@ -1,0 +1,13 @@
+-- `controller::state::OpenMessage::on_word` meets its contract, by the progress. Assumes nothing.
+use borrow.Author.Rules.{rules}
+use Rattle.controller.proofs.HeardLaws.{decided}
+use Rattle.controller.proofs.state.OpenMessage.on_word.Goals as goal
+
+pub returns-then-not-sound : goal.returns-then-not-sound
+returns-then-not-sound c = search (rules, decided)
+
+pub returns-in_default : goal.returns-in_default
+returns-in_default c = search (rules, decided)
+
+pub returns : goal.returns
+returns c = search (rules, decided)
