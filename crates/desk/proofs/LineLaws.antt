@@ -1,5 +1,23 @@
 -- The lines of a run, as the code writes them. Assumes nothing.
-use Rattle.std.proofs.Common.{◌≡◌, ℕ, ◌≤◌, Bool, true, false, cond, eqb, List, [], length, take, drop, refl, arith, length-take, eqb-true}
+use Rattle.std.proofs.Common.{
+  ◌≡◌,
+  ℕ,
+  ◌≤◌,
+  Bool,
+  true,
+  false,
+  cond,
+  eqb,
+  List,
+  [],
+  length,
+  take,
+  drop,
+  refl,
+  arith,
+  length-take,
+  eqb-true,
+}
 use Rattle.card.specs.declared.place.Block.{Block}
 use Rattle.card.specs.Memory.{the_cell, word_address}
 use Rattle.card.specs.Part.{shown_part}

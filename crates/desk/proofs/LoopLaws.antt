@@ -1,6 +1,20 @@
 -- The loop of `run_window`, as `pieces` says it of every call: a row of data words, and a turn.
 -- Assumes nothing.
-use Rattle.std.proofs.Common.{◌≡◌, ℕ, ◌-◌, ◌<◌, ◌≤◌, Bool, true, false, not, List, length, refl, ◌∙◌}
+use Rattle.std.proofs.Common.{
+  ◌≡◌,
+  ℕ,
+  ◌-◌,
+  ◌<◌,
+  ◌≤◌,
+  Bool,
+  true,
+  false,
+  not,
+  List,
+  length,
+  refl,
+  ◌∙◌,
+}
 use Rattle.pieces.specs.AsCoded.Window.{Passed, is_going, turn, turns}
 use Rattle.pieces.proofs.LeadLaws as general
 use Rattle.rows.proofs.LoopLaws as rows

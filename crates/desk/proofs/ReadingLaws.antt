@@ -1,12 +1,33 @@
 -- The laws of `specs/Reading.antt`, as the code comes to each reading. Assumes nothing.
-use Rattle.std.proofs.Common.{◌≡◌, ℕ, ◌+◌, ◌*◌, ◌<◌, ◌≤◌, Bool, true, false, cond, not, eqb, List, length, sym, true≢false, arith, le-ltb, lt-ltb, eq-eqb, ne_eqb}
+use Rattle.std.proofs.Common.{
+  ◌≡◌,
+  ℕ,
+  ◌+◌,
+  ◌*◌,
+  ◌<◌,
+  ◌≤◌,
+  Bool,
+  true,
+  false,
+  cond,
+  not,
+  eqb,
+  List,
+  length,
+  sym,
+  true≢false,
+  arith,
+  le-ltb,
+  lt-ltb,
+  eq-eqb,
+  ne_eqb,
+}
 use native.Mathlib.Decide.{ℕ_discrete, dec_lt}
 use borrow.Author.Tests.{not-true, not-false}
 use Rattle.recording.specs.declared.seen.Seen.{Seen}
 use Rattle.recording.specs.declared.reading.Reading.{Reading as SharedReading}
 use Rattle.recording.specs.Bytes.{bytes_left, byte_at, word_at}
 use Rattle.recording.specs.Reading as recording
-use Rattle.desk.specs.declared.field.Field.{Field}
 use Rattle.desk.specs.declared.field.Field.TheVariants.{Setup, Start}
 use Rattle.desk.specs.declared.reading.Reading.{Reading}
 use Rattle.desk.specs.declared.reading.Reading.TheVariants.{Taken, End, Refused}
@@ -62,7 +83,8 @@ module _ (bytes : List ℕ) (place size : ℕ) (due : Bool) where
       ]
 
   -- one that waits for bytes does not
-  pub own_waits : eqb (own_refusal bytes place size due) 5 ≡ true → bytes_left bytes place < 3 + size
+  pub own_waits : eqb (own_refusal bytes place size due) 5 ≡ true
+      → bytes_left bytes place < 3 + size
   unfolding own_refusal
   own_waits five =
       let left : ℕ = bytes_left bytes place in

@@ -1,6 +1,26 @@
 -- What a reading tells of the bytes (`reading_tells`), and what a field that was read brings: it
 -- ends further on, inside the bytes, and the words of a write stand there. Assumes nothing.
-use Rattle.std.proofs.Common.{◌≡◌, ℕ, ◌+◌, ◌<◌, ◌≤◌, Bool, true, false, not, eqb, List, length, sym, refl, ◌∙◌, subst, true≢false, arith, eqb-true}
+use Rattle.std.proofs.Common.{
+  ◌≡◌,
+  ℕ,
+  ◌+◌,
+  ◌<◌,
+  ◌≤◌,
+  Bool,
+  true,
+  false,
+  not,
+  eqb,
+  List,
+  length,
+  sym,
+  refl,
+  ◌∙◌,
+  subst,
+  true≢false,
+  arith,
+  eqb-true,
+}
 use Rattle.rules.proofs.Choices.{by_test}
 use Rattle.recording.specs.declared.field.Field.{Field as SharedField}
 use Rattle.recording.specs.declared.seen.Seen.{Seen}
@@ -130,7 +150,8 @@ module _ (bytes : List ℕ) (place : ℕ) (seen : Seen) where
         words =
             record {
               few = λ address first count is_write_lem.
-                  (taken_in_order bytes place seen (read_shared (rw is_write_lem at taken))).at_most;
+                  (taken_in_order bytes place seen
+                  (read_shared (rw is_write_lem at taken))).at_most;
               there = λ address first count is_write_lem.
                   taken_words_there bytes place seen (read_shared (rw is_write_lem at taken));
             };

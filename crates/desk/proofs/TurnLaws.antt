@@ -1,5 +1,24 @@
 -- One field of a window, as the code takes it. Assumes nothing.
-use Rattle.std.proofs.Common.{◌≡◌, ℕ, ◌+◌, ◌-◌, ◌%◌, ◌^◌, ◌<◌, ◌≤◌, Bool, eqb, List, length, sym, refl, ap, ◌∙◌, eq-eqb, ne_eqb}
+use Rattle.std.proofs.Common.{
+  ◌≡◌,
+  ℕ,
+  ◌+◌,
+  ◌-◌,
+  ◌%◌,
+  ◌^◌,
+  ◌<◌,
+  ◌≤◌,
+  Bool,
+  eqb,
+  List,
+  length,
+  sym,
+  refl,
+  ap,
+  ◌∙◌,
+  eq-eqb,
+  ne_eqb,
+}
 use Rattle.rules.proofs.Choices.{by_test}
 use Rattle.recording.specs.declared.seen.Seen.{Seen}
 use Rattle.recording.specs.Value.{Valued, valued_at}

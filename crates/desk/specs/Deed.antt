@@ -42,7 +42,8 @@ heard_done heard = done 0 (Ended heard.result) heard.desk
 -- document 01's fields; those whose tags are unknown here do nothing
 unfoldable pub shared_deed : Valued → Desk → Done
 shared_deed (shared.setup station table flags) old = quietly old
-shared_deed (shared.word marks value time) old = heard_done (word_step (word_of marks value time) old)
+shared_deed (shared.word marks value time) old =
+    heard_done (word_step (word_of marks value time) old)
 shared_deed (shared.silence line time) old = heard_done (silence_step (line == 1) old)
 shared_deed shared.read_queue old = quietly old
 shared_deed (shared.host_write address words) old =

@@ -1,5 +1,5 @@
--- The laws of `kept_rest`, as the code moves one byte after the other. What is behind the bytes that
--- were moved is as it was, so that the next is read as it stood. Assumes nothing.
+-- The laws of `kept_rest`, as the code moves one byte after the other. What is behind the bytes
+-- that were moved is as it was, so that the next is read as it stood. Assumes nothing.
 use mathlib.Core.Path.{◌≡◌, refl, sym, ap, ◌∙◌}
 use mathlib.Core.List.{List, [], ◌∷◌}
 use Prim.Native.Nat.{ℕ, suc, ◌+◌, ◌-◌, ◌≤◌, ◌<◌}

@@ -44,7 +44,8 @@ pub ruleset last-lines = (end_line_lem, refusal_line_lem)
 
 -- ---- its length
 
-pub last_line_fits : (number fields offset : ℕ) → length (last_line number fields offset) ≤ line_room
+pub last_line_fits : (number fields offset : ℕ)
+    → length (last_line number fields offset) ≤ line_room
 unfolding last_line
 last_line_fits number fields offset = go (eqb number 0) where
   go : (test : Bool)

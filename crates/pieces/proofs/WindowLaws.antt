@@ -146,7 +146,8 @@ module _ {Run : Type 0} (course : Course Run) {longest : ℕ} (steady : Steady c
       passing_same (taken next line new) room is = field_same next line new room is
       passing_same at_end room is =
           stop_same 0 room
-          (λ ends. whole_by_met course steady old left at_end (by_last at_end (settled_end ends) is))
+          (λ ends. whole_by_met course steady old left at_end
+          (by_last at_end (settled_end ends) is))
       passing_same (refused number) room is =
           stop_same number room
           (λ ends.

@@ -1,7 +1,22 @@
 -- What is asked of a course, so that its recording may come in pieces. All that `proofs/` says of
 -- calls, pieces and buffers follows from it, whatever the fields are. Definitions only. Assumes
 -- nothing.
-use Rattle.std.specs.Prelude.{◌≡◌, true, false, List, [], ◌++◌, ℕ, ◌+◌, ◌-◌, ◌*◌, ◌≤◌, ◌<◌, length, drop}
+use Rattle.std.specs.Prelude.{
+  ◌≡◌,
+  true,
+  false,
+  List,
+  [],
+  ◌++◌,
+  ℕ,
+  ◌+◌,
+  ◌-◌,
+  ◌*◌,
+  ◌≤◌,
+  ◌<◌,
+  length,
+  drop,
+}
 use Rattle.lines.specs.Written.{line_room}
 use Rattle.pieces.specs.Course.{taken, at_end, refused, Course, may_go_on, waits, further_on}
 

@@ -143,7 +143,8 @@ stands_between {bytes = bytes} [] second takes =
 stands_between {seen = seen} {bytes = bytes} {left = left} (told ∷ first) second takes =
     let behind = led takes in
     let rest =
-    stands_between {seen = seen_after behind.field seen} {bytes = drop behind.next bytes} {left = left} first second behind.then in
+    stands_between {seen = seen_after behind.field seen} {bytes = drop behind.next bytes}
+    {left = left} first second behind.then in
     subst (λ (any : Valued). Between seen bytes (any ∷ first) second left) behind.tells
     (record {
       between = rest.between;

@@ -115,7 +115,8 @@ module _ (front back : List ℕ) (place : ℕ) (seen : Seen) where
       open_way is_settled (Refused 5 place) (ltb left 3) (ltb left' 3) refl (still 3) (λ long.
       rw (word_of_more front back (place + 1) (omega (arith, ltb-false left 3 long)))
       (same_way is_settled (Refused 7 place) (not (length_fits tag size)) (λ fits.
-      open_way is_settled (Refused 5 place) (ltb left all) (ltb left' all) refl (still all) (λ whole.
+      open_way is_settled (Refused 5 place) (ltb left all) (ltb left' all) refl (still all)
+      (λ whole.
       rw (field_of_more front back tag (place + 3) size (there fits whole)) (same is_settled))))))))
     where
       left : ℕ

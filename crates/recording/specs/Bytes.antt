@@ -1,6 +1,21 @@
 -- Numbers that stand in a list of bytes, high byte first. Past the end there is no byte, and 0
 -- stands for it. Definitions only. Assumes nothing.
-use Rattle.std.specs.Prelude.{cond, ◌&&◌, List, [], ◌∷◌, ℕ, zero, suc, ◌+◌, ◌-◌, ◌*◌, leb, length, get_or}
+use Rattle.std.specs.Prelude.{
+  cond,
+  ◌&&◌,
+  List,
+  [],
+  ◌∷◌,
+  ℕ,
+  zero,
+  suc,
+  ◌+◌,
+  ◌-◌,
+  ◌*◌,
+  leb,
+  length,
+  get_or,
+}
 use Rattle.std.proofs.lemmas.List.Edits.{sets}
 
 -- how many bytes stand from a place on

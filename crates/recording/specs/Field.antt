@@ -1,6 +1,20 @@
 -- The fields of a recording: the column "Value" of document 01's table of tags. Definitions only.
 -- Assumes nothing.
-use Rattle.std.specs.Prelude.{◌≡◌, Bool, true, false, cond, not, List, ℕ, ◌+◌, ◌-◌, ◌/◌, ◌≤◌, length}
+use Rattle.std.specs.Prelude.{
+  ◌≡◌,
+  Bool,
+  true,
+  false,
+  cond,
+  not,
+  List,
+  ℕ,
+  ◌+◌,
+  ◌-◌,
+  ◌/◌,
+  ◌≤◌,
+  length,
+}
 use Rattle.bus.specs.Limits.{is_station, are_flags, are_marks, is_line}
 use Rattle.card.specs.Memory.{the_block, is_block}
 use Rattle.card.specs.Host.{is_write}

@@ -27,7 +27,8 @@ found_next bytes line at value next is =
     found_moves_on bytes at (marks_on line) (marks_few line) setup_seen refl is
 
 -- it is a data word on the line
-pub is_data_word : (line : Bool) (value time : ℕ) → DataWord line (word_of (marks_on line) value time)
+pub is_data_word : (line : Bool) (value time : ℕ)
+    → DataWord line (word_of (marks_on line) value time)
 is_data_word true value time =
     record { of_data = refl; sound = refl; joined = refl; same_line = refl }
 is_data_word false value time =

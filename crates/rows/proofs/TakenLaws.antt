@@ -111,7 +111,8 @@ module _ (window : List ℕ) (line setup : Bool) (room most at : ℕ) (row : Row
     unfolding row_taken
     some_taken some = go (may_take row setup room most) refl where
       go : (may : Bool) → may_take row setup room most ≡ may → SomeTaken told ram'
-      go true is = record { able = able_tells row setup room most is; is_row = rw is at is_taken_lem }
+      go true is =
+          record { able = able_tells row setup room most is; is_row = rw is at is_taken_lem }
       go false is =
           absurd (some (ap (λ (any : RowLeft). any.taken.words) (rw is at is_taken_lem)))
 

@@ -1,6 +1,22 @@
 -- A row of data words: those on one line, sound and joined, that stand next in some bytes, stored
 -- in the cells of a block one after the other. Definitions only. Assumes nothing.
-use Rattle.std.specs.Prelude.{Bool, cond, ◌&&◌, List, [], ◌∷◌, ℕ, zero, suc, ◌+◌, ◌-◌, ◌*◌, leb, ltb, length}
+use Rattle.std.specs.Prelude.{
+  Bool,
+  cond,
+  ◌&&◌,
+  List,
+  [],
+  ◌∷◌,
+  ℕ,
+  zero,
+  suc,
+  ◌+◌,
+  ◌-◌,
+  ◌*◌,
+  leb,
+  ltb,
+  length,
+}
 use Rattle.bus.specs.declared.word.Word.{Word}
 use Rattle.bus.specs.Word.{word_of}
 use Rattle.bus.specs.DataWords.{values_of}

@@ -1,5 +1,24 @@
 -- The laws of the lines in `specs/Run.antt`: what each answer prints. Assumes nothing.
-use Rattle.std.proofs.Common.{◌≡◌, ℕ, ◌≤◌, Bool, true, false, cond, eqb, List, [], ◌∷◌, length, take, drop, refl, arith, length-take, eqb-true}
+use Rattle.std.proofs.Common.{
+  ◌≡◌,
+  ℕ,
+  ◌≤◌,
+  Bool,
+  true,
+  false,
+  cond,
+  eqb,
+  List,
+  [],
+  ◌∷◌,
+  length,
+  take,
+  drop,
+  refl,
+  arith,
+  length-take,
+  eqb-true,
+}
 use Rattle.card.specs.declared.place.Block.{Block}
 use Rattle.card.specs.Memory.{data_cells, card_blocks, the_cell, word_address}
 use Rattle.card.specs.Part.{shown_part}

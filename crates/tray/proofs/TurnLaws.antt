@@ -1,6 +1,22 @@
 -- The laws of `specs/AsCoded/Window.antt`, as the code takes one field of a window. Assumes
 -- nothing.
-use Rattle.std.proofs.Common.{◌≡◌, ℕ, ◌+◌, ◌-◌, ◌%◌, ◌^◌, ◌<◌, ◌≤◌, Bool, List, length, sym, ap, ◌∙◌, arith}
+use Rattle.std.proofs.Common.{
+  ◌≡◌,
+  ℕ,
+  ◌+◌,
+  ◌-◌,
+  ◌%◌,
+  ◌^◌,
+  ◌<◌,
+  ◌≤◌,
+  Bool,
+  List,
+  length,
+  sym,
+  ap,
+  ◌∙◌,
+  arith,
+}
 use Rattle.terminal.specs.Event.{shown}
 use Rattle.terminal.specs.State.{card_of}
 use Rattle.recording.specs.declared.field.Field.{Field}

@@ -45,5 +45,6 @@ happenings (field ∷ rest) = happening_of field ∷ happenings rest
 -- setup makes the terminal and leaves the RAM; an event is a step of it
 unfoldable pub happened : Happening → Card → Shown
 happened (setup station table flags) old =
-    shown (card (core_at_setup station (the_block table) flags) empty_queue old.ram) (replied Silent)
+    shown (card (core_at_setup station (the_block table) flags) empty_queue old.ram)
+    (replied Silent)
 happened (event told) old = seen (step told old)

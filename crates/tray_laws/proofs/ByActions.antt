@@ -96,7 +96,8 @@ module _ (bytes : List ℕ) (place next : ℕ) (old : Card) where
   action_taken : (field : Field) → InOrder place next field
       → (is_setup field ≡ false → WholeAndFit old)
       → action_of bytes field old ≡ unrefused (happened (happening_of (valued_at bytes field)) old)
-  unfolding action_of happened happening_of valued_at step read_queue_step move_table_step set_flags_step
+  unfolding action_of happened happening_of valued_at step read_queue_step move_table_step
+      set_flags_step
       setup_action word_action silence_action host_write_action read_queue_action move_table_action
       set_flags_action without_memory terminal_at_setup
   action_taken (Setup station table flags) ordered sound =

@@ -28,7 +28,8 @@ module _ (window : List ℕ) (last : Bool) where
   call_inside = general.call_inside tray_course tray_is_steady window last
 
   -- the fields that were taken are in the window
-  pub call_within : (old : Tray) (out : List ℕ) → (window_run old window last out).at ≤ length window
+  pub call_within : (old : Tray) (out : List ℕ)
+      → (window_run old window last out).at ≤ length window
   call_within = general.call_within tray_course tray_is_steady window last
 
   -- the last bytes leave no call waiting

@@ -26,7 +26,8 @@ use Rattle.tray_laws.proofs.FitLaws.{taking_line_fits}
 -- ---- only the bytes from the place on are looked at
 
 shifted_met : (old : Tray) (bytes : List ℕ) (at : ℕ) (reading : Reading)
-    → met_by (shifted at reading) bytes at old ≡ further_on at (met_by reading (drop at bytes) 0 old)
+    → met_by (shifted at reading) bytes at old
+    ≡ further_on at (met_by reading (drop at bytes) 0 old)
 unfolding met_by taking taking_line
 shifted_met old bytes at (Taken field next) =
     let size : (at + next) - at ≡ next - 0 = omega arith in

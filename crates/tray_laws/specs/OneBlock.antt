@@ -55,7 +55,8 @@ pub data SameLine : Bool → Message → List ℕ → List ℕ → Type 0 where
       → SameLine true (Open message) (status_line status []) (status_line other [])
   last_but_error : {message : OpenMessage} (status other last : ℕ)
       → kind_of message.command ≡ ModeLast → without_error status ≡ without_error other
-      → SameLine true (Open message) (status_line status (last ∷ [])) (status_line other (last ∷ []))
+      → SameLine true (Open message)
+      (status_line status (last ∷ [])) (status_line other (last ∷ []))
 
 -- .. and so for each later field; the exception ends where another command opens a message
 unfoldable pub LaterLines : Bool → List Event → Card → Card → Type 0

@@ -28,7 +28,8 @@ pub data Streamed {Run : Type 0} (course : Course Run) (start : Run)
   calls : {ended : Bool} {input text : List ℕ} {old : Run} {window : List ℕ} (out : List ℕ)
       → Streamed course start ended input text old window
       → (window_run course old window ended out).stop ≢ Over
-      → Streamed course start ended input (text ++ lines_put (window_run course old window ended out))
+      → Streamed course start ended input
+      (text ++ lines_put (window_run course old window ended out))
       (window_run course old window ended out).run
       (drop (window_run course old window ended out).at window)
 

@@ -6,7 +6,15 @@ use Rattle.card.specs.declared.place.Block.{Block}
 use Rattle.terminal.specs.State.{Card}
 use Rattle.terminal.specs.Event.{Event, word}
 use Rattle.terminal.specs.Machine.{step, run}
-use Rattle.terminal_laws.specs.OneBlock.{Alike, Later, SameAfter, BothOver, closed, superseded}
+use Rattle.terminal_laws.specs.OneBlock.{
+  still_before,
+  Alike,
+  Later,
+  SameAfter,
+  BothOver,
+  closed,
+  superseded,
+}
 
 module _ (Spent : Block → Type 0) where
   -- cards that are alike before the later events are alike after them
@@ -16,8 +24,8 @@ module _ (Spent : Block → Type 0) where
   unfolding Later run
   alike_after before [] here there same-later alike = alike
   alike_after before (told ∷ later) here there same-later alike =
-      alike_after _ later (step told here).card (step told there).card same-later.1
-      same-later.0.cards
+      alike_after (still_before before (step told here).opened) later
+      (step told here).card (step told there).card same-later.1 same-later.0.cards
 
   -- before them they are where both messages have closed; else there is a later event, and after
   -- the first of them they are

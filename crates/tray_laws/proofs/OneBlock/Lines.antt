@@ -20,6 +20,7 @@ use Rattle.terminal_laws.specs.OneBlock.{
   status_but_error as status-answer,
   last_but_error as last-answer,
   Later,
+  still_before,
 }
 use Rattle.lines.specs.Lines.{status_line}
 use Rattle.tray.specs.Run.{answer_line}
@@ -65,5 +66,6 @@ later_lines Spent before (told ∷ later) here there same-later =
     let outcome = same-later.0 in (
       same_line (step told here).card.ram (step told there).card.ram outcome.cards.long
           outcome.answer outcome.words,
-      later_lines Spent _ later (step told here).card (step told there).card same-later.1,
+      later_lines Spent (still_before before (step told here).opened) later
+          (step told here).card (step told there).card same-later.1,
     )

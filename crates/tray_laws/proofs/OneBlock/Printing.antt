@@ -25,7 +25,8 @@ unfolding events
 length_of_events [] = refl
 length_of_events (told ∷ more) = ap suc (length_of_events more)
 
-lines_of_events : (told : List Event) (old : Card) → told_lines (events told) old ≡ lines_of told old
+lines_of_events : (told : List Event) (old : Card)
+    → told_lines (events told) old ≡ lines_of told old
 unfolding told_lines events lines_of happened
 lines_of_events [] old = refl
 lines_of_events (told ∷ more) old =

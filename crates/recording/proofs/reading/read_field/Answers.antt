@@ -1,6 +1,16 @@
 -- `recording::reading::read_field` meets its contract: a law for each answer of the reader. Assumes
 -- nothing.
-use Rattle.recording.proofs.ReadingLaws.{read_end, read_unknown, read_no_length, read_other_length, read_no_value, value_there, read_out_of_turn, read_refused, read_taken}
+use Rattle.recording.proofs.ReadingLaws.{
+  read_end,
+  read_unknown,
+  read_no_length,
+  read_other_length,
+  read_no_value,
+  value_there,
+  read_out_of_turn,
+  read_refused,
+  read_taken,
+}
 use mathlib.Core.Path.{ap}
 use mathlib.Core.Bool.{not}
 use Rattle.recording.proofs.reading.read_field.Goals as goal

@@ -13,7 +13,8 @@ pub shape_of-ram-after-loop-cell : goal.shape_of-ram-after-loop-cell
 shape_of-ram-after-loop-cell c = search (rules, storing) depth 9
 
 pub returns-after-loop-cell : goal.returns-after-loop-cell
-returns-after-loop-cell c = row_done _ _ _ _ _ _ _ _ _ _ c.loop-cell.invariant c.loop-cell-test.false
+returns-after-loop-cell c =
+    row_done _ _ _ _ _ _ _ _ _ _ c.loop-cell.invariant c.loop-cell-test.false
 
 pub shape_of-ram-in_default : goal.shape_of-ram-in_default
 shape_of-ram-in_default c = search (rules, storing) depth 9

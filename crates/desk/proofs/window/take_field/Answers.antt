@@ -1,0 +1,18 @@
+-- `desk::window::take_field` meets its contract: it is taken, or what it does is refused. Assumes
+-- nothing.
+use Rattle.std.proofs.Common.{rules}
+use Rattle.desk.proofs.TurnLaws.{field-passes}
+use Rattle.desk.proofs.TakenLaws.{was_read}
+use Rattle.desk.proofs.window.take_field.Goals as goal
+
+pub do_field-deed-requires : goal.do_field-deed-requires
+do_field-deed-requires c = search (rules, was_read)
+
+pub returns-then-deed-ne0 : goal.returns-then-deed-ne0
+returns-then-deed-ne0 c = search (rules, field-passes) depth 9
+
+pub overflow_sub-size : goal.overflow_sub-size
+overflow_sub-size c = search (rules, was_read)
+
+pub returns : goal.returns
+returns c = search (rules, field-passes) depth 9
