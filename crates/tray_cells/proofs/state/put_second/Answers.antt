@@ -1,0 +1,11 @@
+-- `tray_cells::state::put_second` meets its contract, with a second command and without. Assumes
+-- nothing.
+use borrow.Author.Rules.{rules}
+use Rattle.tray_cells.proofs.StateLaws.{no_second, second_command}
+use Rattle.tray_cells.proofs.state.put_second.Goals as goal
+
+pub returns-in-Absent : goal.returns-in-Absent
+returns-in-Absent c = search (rules, no_second, second_command)
+
+pub returns-in-Command : goal.returns-in-Command
+returns-in-Command c = search (rules, no_second, second_command)
