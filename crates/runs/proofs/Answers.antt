@@ -43,9 +43,9 @@ read-bytes = 0x04 ∷ 0x00 ∷ 0x00 ∷ []
 
 -- to unfold `answers` is to unfold a tray run, and what an answer says of it
 unfoldable answers : ℕ
-unfolding runs read_at tag_of length_fits field_at valued_at field_of happening_of happenings happened
-    tray_at_start last_line taking taking_line met_by tray_course whole_of whole_by every_whole
-    seen_after_all told_lines told_card tray_after hex_word queue_line
+unfolding runs read_at tag_of length_fits field_at valued_at field_of happening_of happenings
+    happened tray_at_start last_line taking taking_line met_by tray_course whole_of whole_by
+    every_whole seen_after_all told_lines told_card tray_after hex_word queue_line
 answers = 0
 
 -- it prints the line of the queue read, and END 2

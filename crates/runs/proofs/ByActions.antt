@@ -73,8 +73,9 @@ none_refused : {old : Tray} {bytes : List ℕ} {made : Whole} → ByActions old 
     → (most : ℕ) → AllZero (numbers most old bytes)
 unfolding numbers
 none_refused run zero = tt
-none_refused (acts sound is taken more) (suc most) =
-    rw (is, taken) (refl, none_refused more most)
+none_refused {old = old} (acts {field = field} {next = next} {new = new} sound is taken more)
+    (suc most) =
+    rw (is, taken) (refl, none_refused {old = tray_with field new next old} more most)
 none_refused (ends sound is) (suc most) = rw is tt
 none_refused (refuses sound is alike) (suc most) = rw is tt
 

@@ -76,7 +76,8 @@ unfolding with_joined oldest_word without_oldest fit_queue
 queues = 0
 
 setters : ℕ
-unfolding with_table with_flags with_status with_last with_switches with_message further moved_message
+unfolding with_table with_flags with_status with_last with_switches with_message further
+    moved_message
 setters = 0
 
 setups : ℕ
@@ -112,7 +113,8 @@ unfolding fit_open fit_core
 fitness = 0
 
 actions : ℕ
-unfolding word_action silence_action host_write_action read_queue_action move_table_action set_flags_action
+unfolding word_action silence_action host_write_action read_queue_action move_table_action
+    set_flags_action
 actions = 0
 
 -- what is held

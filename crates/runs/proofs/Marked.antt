@@ -36,9 +36,9 @@ found wanted =
 
 -- to unfold `all` is to unfold a tray run, from bytes to text
 unfoldable all : ℕ
-unfolding runs read_at tag_of length_fits field_at valued_at happening_of happened tray_at_start last_line
-    taking taking_line met_by tray_course whole_of whole_by every_whole hex_digit hex_word decimal_by
-    decimal each_word status_line queue_line end_line refusal_line marked
+unfolding runs read_at tag_of length_fits field_at valued_at happening_of happened tray_at_start
+    last_line taking taking_line met_by tray_course whole_of whole_by every_whole hex_digit
+    hex_word decimal_by decimal each_word status_line queue_line end_line refusal_line marked
 all = 0
 
 all_as_marked : map found marked ≡ marked

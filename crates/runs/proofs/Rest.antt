@@ -158,7 +158,8 @@ TableInside Asked =
 -- station 5, table block 1, a memory of so many zeros; a message is open
 unfoldable opened : ℕ → OpenMessage → Card
 opened words message =
-    card (with_message (Open message) (core_at_setup 5 (the_block 1) 0)) empty_queue (replicate words 0)
+    card (with_message (Open message) (core_at_setup 5 (the_block 1) 0)) empty_queue
+    (replicate words 0)
 
 -- whatever the length of the memory
 record OverAny (old : Card) (message : OpenMessage) : Type 0 where

@@ -159,7 +159,8 @@ an_open_message_would_differ claim =
     let queues =
     (claim (chains 0x4002 0) command sound (word1 ∷ []) (read_queue ∷ []) (tray_command 0x4002 0)
     (a_word refl (a_word refl (a_silence nothing))) (a_word refl nothing) whatever
-    (spared_from_lem (the_block 2) (read_queue ∷ []) (run (word command ∷ sound) (chains 0x4002 0)) refl)
+    (spared_from_lem (the_block 2) (read_queue ∷ [])
+    (run (word command ∷ sound) (chains 0x4002 0)) refl)
     ).later.0.cards.queue.entries in
     let differs : ◌≡◌ {A = ℕ} 1 0 = ap (λ (queue : Queue). queue.ring.start) queues in
     omega arith
