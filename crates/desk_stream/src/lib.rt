@@ -61,11 +61,7 @@ fn run_pieces<I: Read, O: Write>(
 }
 
 // Runs the recording on the input over the lent memory, which starts zero, whatever it held.
-pub fn run_input<I: Read, O: Write>(
-    input: &mut I,
-    output: &mut O,
-    ram: &mut [u16; 16384],
-) -> Done
+pub fn run_input<I: Read, O: Write>(input: &mut I, output: &mut O, ram: &mut [u16; 16384]) -> Done
     ensures { Came desk_course run_at_start
         (run_of result.run ram.new) result.whole }
 {

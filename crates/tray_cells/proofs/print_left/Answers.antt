@@ -7,7 +7,7 @@ use Rattle.shown.proofs.TextLaws.{end_inside}
 use Rattle.tray_cells.proofs.print_left.Goals as goal
 
 pub slice_bounds-out-end : goal.slice_bounds-out-end
-slice_bounds-out-end c = sym (length-replicate {A = ℕ} 172032 0)
+slice_bounds-out-end g c = sym (length-replicate {A = ℕ} 172032 0)
 
 pub slice_bounds-write_all-end : goal.slice_bounds-write_all-end
-slice_bounds-write_all-end c = search end_inside
+slice_bounds-write_all-end g c = search end_inside

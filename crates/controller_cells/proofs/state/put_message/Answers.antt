@@ -1,0 +1,10 @@
+-- `controller_cells::state::put_message` meets its contract, idle and open. Assumes nothing.
+use borrow.Author.Rules.{rules}
+use Rattle.controller_cells.proofs.StateLaws.{message_idle, message_open}
+use Rattle.controller_cells.proofs.state.put_message.Goals as goal
+
+pub returns-in-Idle : goal.returns-in-Idle
+returns-in-Idle c = search (rules, message_idle, message_open)
+
+pub returns-in-Open : goal.returns-in-Open
+returns-in-Open c = search (rules, message_idle, message_open)
