@@ -77,11 +77,11 @@ module _ (given : Terminal) (fit ordered : Bool) (number : ℕ)
 
   pub disorder_refused : not fit ≡ false → not ordered ≡ true
       → number ≡ alone_refusal (fit_terminal given) ordered number
-  disorder_refused is-sound out = rw (← is_fit, is-sound, out)
+  disorder_refused is_sound out = rw (← is_fit, is_sound, out)
 
   pub none_refused : not fit ≡ false → not ordered ≡ false
       → 0 ≡ alone_refusal (fit_terminal given) ordered number
-  none_refused is-sound ordered = rw (← is_fit, is-sound, ordered)
+  none_refused is_sound ordered = rw (← is_fit, is_sound, ordered)
 
 pub ruleset refusing = (unfit_refused, disorder_refused, none_refused)
 
@@ -129,8 +129,8 @@ module _ (given : Terminal) (ram : List ℕ) where
       → heard ≡ word_of marks value time → new ≡ (word_step heard over_memory).card
       → after 0 (replied Silent) new ≡ took (step (word (word_of marks value time)) over_memory)
   unfolding step
-  word_took marks value time heard new is-heard is_new =
-      rw (← is-heard, words_are_silent heard over_memory, ← is_new)
+  word_took marks value time heard new is_heard is_new =
+      rw (← is_heard, words_are_silent heard over_memory, ← is_new)
 
   pub silence_took : (line : Bool) (time : ℕ) (new : After)
       → new ≡ took (silence_step line time over_memory)
@@ -188,14 +188,14 @@ module _ (given : Terminal) (ram : List ℕ) where
       go true true true none = refl
       go true true false none = refl
 
-pub ruleset over-ram =
+pub ruleset over_ram =
     (memory_refused, memory_took, word_took, silence_took, host_refused, host_took)
 
 -- ---- actions on the terminal alone
 
 module _ (given : Terminal) (in_order : Bool) (own : ℕ) (refused : Answer) (event : Event)
     (number : ℕ) (is : number ≡ alone_refusal (fit_terminal given) in_order own)
-    (own-refuses : eqb own 0 ≡ false) where
+    (own_refuses : eqb own 0 ≡ false) where
   abbrev alone_by : (fit order : Bool) → After
   alone_by fit order =
       cond (not fit) (after 4 refused (alone given))
@@ -223,7 +223,7 @@ module _ (given : Terminal) (in_order : Bool) (own : ℕ) (refused : Answer) (ev
       go false order by = elim (some_is_none 3 (sym by ∙ none)) [ ]
       go true false by =
           ap (λ (taken : Bool). cond taken new (after own refused (alone given)))
-          (sym (ap (λ (tried : ℕ). eqb tried 0) (sym by ∙ none)) ∙ own-refuses)
+          (sym (ap (λ (tried : ℕ). eqb tried 0) (sym by ∙ none)) ∙ own_refuses)
       go true true by = same
 
 module _ (given : Terminal) (fit : Bool) (is_fit : fit ≡ fit_terminal given) where
@@ -236,7 +236,7 @@ module _ (given : Terminal) (fit : Bool) (is_fit : fit ≡ fit_terminal given) w
       → after 0 (queue_word taken.word) (card given.core taken.queue [])
       ≡ read_queue_action (alone given)
   unfolding read_queue_action step read_queue_step
-  read_took taken is-sound is_taken_lem = rw (← is_fit, is-sound, is_taken_lem)
+  read_took taken is_sound is_taken_lem = rw (← is_fit, is_sound, is_taken_lem)
 
 module _ (given : Terminal) (core : Core) where
   pub table_took : (table : Block)
@@ -252,7 +252,7 @@ module _ (given : Terminal) (core : Core) where
   unfolding step set_flags_step
   flags_took flags is = rw is
 
-pub ruleset on-terminal = (
+pub ruleset on_terminal = (
   alone_refused,
   alone_took,
   read_refused,
@@ -293,12 +293,12 @@ module _ (station table flags : ℕ) where
   module _ (number : ℕ) (given : Terminal) (is : number ≡ setup_refusal station table flags) where
     pub setup_refused : (number ≡ 0 → ⊥) → given ≡ no_terminal
         → done number given ≡ setup_action station table flags
-    setup_refused other is-given =
-        rw (setup_by, ← is, ne_eqb number 0 other, is-given)
+    setup_refused other is_given =
+        rw (setup_by, ← is, ne_eqb number 0 other, is_given)
 
     pub setup_done : number ≡ 0 → given ≡ terminal_at_setup station (the_block table) flags
         → done 0 given ≡ setup_action station table flags
-    setup_done none is-given = rw (setup_by, ← is, eq-eqb number 0 none, is-given)
+    setup_done none is_given = rw (setup_by, ← is, eq-eqb number 0 none, is_given)
 
 pub ruleset Setting-up = (setup_refused, setup_done)
 

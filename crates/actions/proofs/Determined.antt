@@ -4,61 +4,61 @@ use Rattle.rules.proofs.Determined.{Determined, DeterminedAs, same}
 use Rattle.terminal.specs.declared.state.Reply.TheVariants.{Silent}
 use Rattle.terminal.specs.Event.{replied, queue_word}
 use Rattle.actions.specs.Actions.{After, after, over, alone}
-use Rattle.actions.proofs.Terminal.setup.Kinds as setup-kinds
-use Rattle.actions.proofs.Terminal.setup.Reads as setup-reads
-use Rattle.actions.proofs.Terminal.is_fit.Kinds as is-fit-kinds
-use Rattle.actions.proofs.Terminal.is_fit.Reads as is-fit-reads
-use Rattle.actions.proofs.Terminal.word.Kinds as word-kinds
-use Rattle.actions.proofs.Terminal.word.Reads as word-reads
-use Rattle.actions.proofs.Terminal.silence.Kinds as silence-kinds
-use Rattle.actions.proofs.Terminal.silence.Reads as silence-reads
-use Rattle.actions.proofs.Terminal.host_write.Kinds as host-write-kinds
-use Rattle.actions.proofs.Terminal.host_write.Reads as host-write-reads
-use Rattle.actions.proofs.Terminal.read_queue.Kinds as read-queue-kinds
-use Rattle.actions.proofs.Terminal.read_queue.Reads as read-queue-reads
-use Rattle.actions.proofs.Terminal.move_table.Kinds as move-table-kinds
-use Rattle.actions.proofs.Terminal.move_table.Reads as move-table-reads
-use Rattle.actions.proofs.Terminal.set_flags.Kinds as set-flags-kinds
-use Rattle.actions.proofs.Terminal.set_flags.Reads as set-flags-reads
+use Rattle.actions.proofs.Terminal.setup.Kinds as setup_kinds
+use Rattle.actions.proofs.Terminal.setup.Reads as setup_reads
+use Rattle.actions.proofs.Terminal.is_fit.Kinds as is_fit_kinds
+use Rattle.actions.proofs.Terminal.is_fit.Reads as is_fit_reads
+use Rattle.actions.proofs.Terminal.word.Kinds as word_kinds
+use Rattle.actions.proofs.Terminal.word.Reads as word_reads
+use Rattle.actions.proofs.Terminal.silence.Kinds as silence_kinds
+use Rattle.actions.proofs.Terminal.silence.Reads as silence_reads
+use Rattle.actions.proofs.Terminal.host_write.Kinds as host_write_kinds
+use Rattle.actions.proofs.Terminal.host_write.Reads as host_write_reads
+use Rattle.actions.proofs.Terminal.read_queue.Kinds as read_queue_kinds
+use Rattle.actions.proofs.Terminal.read_queue.Reads as read_queue_reads
+use Rattle.actions.proofs.Terminal.move_table.Kinds as move_table_kinds
+use Rattle.actions.proofs.Terminal.move_table.Reads as move_table_reads
+use Rattle.actions.proofs.Terminal.set_flags.Kinds as set_flags_kinds
+use Rattle.actions.proofs.Terminal.set_flags.Reads as set_flags_reads
 
-pub setup : Determined 0 setup-kinds.ps setup-kinds.r setup-reads.Post
+pub setup : Determined 0 setup_kinds.ps setup_kinds.r setup_reads.Post
 setup κs arguments result result' exit exit' = same
 
 pub word :
-    DeterminedAs 1 word-kinds.ps word-kinds.r word-reads.Post After
+    DeterminedAs 1 word_kinds.ps word_kinds.r word_reads.Post After
     (λ κs result exit. after result.refusal (replied result.reply)
     (over result.terminal exit.1.0.now))
 word κs arguments result result' exit exit' = same
 
 pub silence :
-    DeterminedAs 1 silence-kinds.ps silence-kinds.r silence-reads.Post After
+    DeterminedAs 1 silence_kinds.ps silence_kinds.r silence_reads.Post After
     (λ κs result exit. after result.refusal (replied result.reply)
     (over result.terminal exit.1.0.now))
 silence κs arguments result result' exit exit' = same
 
 pub host_write :
-    DeterminedAs 2 host-write-kinds.ps host-write-kinds.r host-write-reads.Post After
+    DeterminedAs 2 host_write_kinds.ps host_write_kinds.r host_write_reads.Post After
     (λ κs result exit. after result.refusal (replied Silent)
     (over result.terminal exit.1.0.now))
 host_write κs arguments result result' exit exit' = same
 
 pub read_queue :
-    DeterminedAs 0 read-queue-kinds.ps read-queue-kinds.r read-queue-reads.Post After
+    DeterminedAs 0 read_queue_kinds.ps read_queue_kinds.r read_queue_reads.Post After
     (λ κs result exit. after result.refusal (queue_word result.word)
     (alone result.terminal))
 read_queue κs arguments result result' exit exit' = same
 
 pub move_table :
-    DeterminedAs 0 move-table-kinds.ps move-table-kinds.r move-table-reads.Post After
+    DeterminedAs 0 move_table_kinds.ps move_table_kinds.r move_table_reads.Post After
     (λ κs result exit. after result.refusal (replied Silent)
     (alone result.terminal))
 move_table κs arguments result result' exit exit' = same
 
 pub set_flags :
-    DeterminedAs 0 set-flags-kinds.ps set-flags-kinds.r set-flags-reads.Post After
+    DeterminedAs 0 set_flags_kinds.ps set_flags_kinds.r set_flags_reads.Post After
     (λ κs result exit. after result.refusal (replied Silent)
     (alone result.terminal))
 set_flags κs arguments result result' exit exit' = same
 
-pub is_fit : Determined 0 is-fit-kinds.ps is-fit-kinds.r is-fit-reads.Post
+pub is_fit : Determined 0 is_fit_kinds.ps is_fit_kinds.r is_fit_reads.Post
 is_fit κs arguments result result' exit exit' = same

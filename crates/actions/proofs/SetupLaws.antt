@@ -18,11 +18,11 @@ pub fit_at_setup : (station : ℕ) (table : Block) (flags : ℕ)
     → station ≤ last_station → table.0 < card_blocks → flags ≤ all_flags
     → fit_terminal (terminal_at_setup station table flags) ≡ true
 unfolding fit_core terminal_at_setup core_at_setup
-fit_at_setup station table flags fit-station fit-table fit-flags =
+fit_at_setup station table flags fit_station fit_table fit_flags =
     rw (
-      le-leb station last_station fit-station,
-      lt-ltb table.0 card_blocks fit-table,
-      le-leb flags all_flags fit-flags,
+      le-leb station last_station fit_station,
+      lt-ltb table.0 card_blocks fit_table,
+      le-leb flags all_flags fit_flags,
     ) (empty_is_fit card_blocks (omega arith))
 
 -- what a refused setup returns is no terminal

@@ -36,8 +36,8 @@ module _ (command : ℕ) where
         → legal ≡ legal_mode_of row command → legal ≡ true
         → asked ≡ mode_kind_of row.word code → asked ≡ kind_of command
     unfolding kind_of
-    kind_mode is_mode_lem yes-mode is_code is_row is-legal yes-legal is-asked =
-        rw (sym is_mode_lem ∙ yes-mode, ← is_code, ← is_row, sym is-legal ∙ yes-legal) is-asked
+    kind_mode is_mode_lem yes_mode is_code is_row is_legal yes_legal is_asked =
+        rw (sym is_mode_lem ∙ yes_mode, ← is_code, ← is_row, sym is_legal ∙ yes_legal) is_asked
 
   module _ (mode legal : Bool) (code : ℕ) (row : Mode) where
     pub kind_illegal_mode : mode ≡ is_mode command → mode ≡ true
@@ -45,27 +45,27 @@ module _ (command : ℕ) where
         → legal ≡ legal_mode_of row command → legal ≡ false
         → Illegal ≡ kind_of command
     unfolding kind_of
-    kind_illegal_mode is_mode_lem yes-mode is_code is_row is-legal no-legal =
-        rw (sym is_mode_lem ∙ yes-mode, ← is_code, ← is_row, sym is-legal ∙ no-legal)
+    kind_illegal_mode is_mode_lem yes_mode is_code is_row is_legal no_legal =
+        rw (sym is_mode_lem ∙ yes_mode, ← is_code, ← is_row, sym is_legal ∙ no_legal)
 
   module _ (mode transmit broadcast : Bool) where
     pub kind_receive : mode ≡ is_mode command → mode ≡ false
         → transmit ≡ is_transmit command → not transmit ≡ true
         → Receive ≡ kind_of command
     unfolding kind_of
-    kind_receive is_mode_lem no_mode is_transmit_lem no-transmit =
-        rw (sym is_mode_lem ∙ no_mode, sym is_transmit_lem ∙ not-true transmit no-transmit)
+    kind_receive is_mode_lem no_mode is_transmit_lem no_transmit =
+        rw (sym is_mode_lem ∙ no_mode, sym is_transmit_lem ∙ not-true transmit no_transmit)
 
     pub kind_transmit : mode ≡ is_mode command → mode ≡ false
         → transmit ≡ is_transmit command → not transmit ≡ false
         → broadcast ≡ is_broadcast command → broadcast ≡ false
         → Transmit ≡ kind_of command
     unfolding kind_of
-    kind_transmit is_mode_lem no_mode is_transmit_lem yes-transmit is_broadcast_lem no-broadcast =
+    kind_transmit is_mode_lem no_mode is_transmit_lem yes_transmit is_broadcast_lem no_broadcast =
         rw (
           sym is_mode_lem ∙ no_mode,
-          sym is_transmit_lem ∙ not-false transmit yes-transmit,
-          sym is_broadcast_lem ∙ no-broadcast,
+          sym is_transmit_lem ∙ not-false transmit yes_transmit,
+          sym is_broadcast_lem ∙ no_broadcast,
         )
 
     pub kind_broadcast : mode ≡ is_mode command → mode ≡ false
@@ -73,11 +73,11 @@ module _ (command : ℕ) where
         → broadcast ≡ is_broadcast command → broadcast ≡ true
         → Illegal ≡ kind_of command
     unfolding kind_of
-    kind_broadcast is_mode_lem no_mode is_transmit_lem yes-transmit is_broadcast_lem yes-broadcast =
+    kind_broadcast is_mode_lem no_mode is_transmit_lem yes_transmit is_broadcast_lem yes_broadcast =
         rw (
           sym is_mode_lem ∙ no_mode,
-          sym is_transmit_lem ∙ not-false transmit yes-transmit,
-          sym is_broadcast_lem ∙ yes-broadcast,
+          sym is_transmit_lem ∙ not-false transmit yes_transmit,
+          sym is_broadcast_lem ∙ yes_broadcast,
         )
 
 pub ruleset by_kind = (kind_mode, kind_illegal_mode, kind_receive, kind_transmit, kind_broadcast)

@@ -19,7 +19,7 @@ weight_at_most false weight = omega arith
 pub status_address : (status : Status) → status.station < 32
     → address_of (status_word status) ≡ status.station
 unfolding status_word
-status_address status five-bits =
+status_address status five_bits =
     omega (
       arith,
       weight_at_most status.error 1024,

@@ -39,11 +39,11 @@ module _ {Written : ℕ → Type 0} where
   -- one after the other
   pub keeps_then : {first then : List ℕ → List ℕ} → Keeps Written first → Keeps Written then
       → Keeps Written (λ ram. then (first ram))
-  keeps_then {first} {then} kept-first Kept-then =
+  keeps_then {first} {then} kept_first Kept-then =
       record {
-        same_length = λ ram. Kept-then.same_length (first ram) ∙ kept-first.same_length ram;
+        same_length = λ ram. Kept-then.same_length (first ram) ∙ kept_first.same_length ram;
         same_else = λ ram address else.
-            Kept-then.same_else (first ram) address else ∙ kept-first.same_else ram address else;
+            Kept-then.same_else (first ram) address else ∙ kept_first.same_else ram address else;
       }
 
   -- what keeps to some addresses keeps to more

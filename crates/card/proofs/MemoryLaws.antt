@@ -28,13 +28,13 @@ same_cell same = ap the_cell same
 pub address_names : {block other : Block} {cell cell' : Cell}
     → cell.0 < block_cells → cell'.0 < block_cells
     → word_address block cell ≡ word_address other cell' → (block ≡ other) × (cell ≡ cell')
-address_names in_block in-other same = (same_block (omega arith), same_cell (omega arith))
+address_names in_block in_other same = (same_block (omega arith), same_cell (omega arith))
 
 -- a cell of another block is at another address
 pub addresses_apart : {block other : Block} {cell cell' : Cell}
     → cell.0 < block_cells → cell'.0 < block_cells
     → other ≢ block → word_address other cell' ≢ word_address block cell
-addresses_apart in_block in-other apart same = apart (same_block (omega arith))
+addresses_apart in_block in_other apart same = apart (same_block (omega arith))
 
 -- ---- a store on each way that the code takes
 
@@ -103,4 +103,4 @@ module _ (ram : List ℕ) (block : Block) (cell : Cell) (address : ℕ) where
   unfolding cell_at
   cell_out is out = sym (get_or-eq_default ram 0 {n = word_address block cell} (rw is at out))
 
-pub ruleset cell-reads = (cell_inside, cell_out)
+pub ruleset cell_reads = (cell_inside, cell_out)

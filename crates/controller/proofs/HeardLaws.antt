@@ -47,7 +47,7 @@ use Rattle.controller.specs.Heard.{
 -- ---- the end
 
 module _ (state : Controller) (ram : List ℕ) (code : ℕ) (mark onward : Bool) (block : Block)
-    (next : ℕ) (is-onward : onward ≡ goes_on state.control)
+    (next : ℕ) (is_onward : onward ≡ goes_on state.control)
     (is_Block : block ≡ block_in state.control) (is_next : next ≡ cell_at ram block (the_cell 63))
   where
     -- what an end leaves, by its control word
@@ -65,12 +65,12 @@ module _ (state : Controller) (ram : List ℕ) (code : ℕ) (mark onward : Bool)
     pub goes_on_lem : (eqb code 0 && not mark && onward) ≡ true
         → left next ≡ ended code mark (desk state ram)
     unfolding ended
-    goes_on_lem on = rw (← is-onward, on, is_next, is_Block)
+    goes_on_lem on = rw (← is_onward, on, is_next, is_Block)
 
     pub stops : (eqb code 0 && not mark && onward) ≡ false
         → left state.control ≡ ended code mark (desk state ram)
     unfolding ended
-    stops off = rw (← is-onward, off)
+    stops off = rw (← is_onward, off)
 
 pub ruleset ends = (goes_on_lem, stops)
 
@@ -85,13 +85,13 @@ module _ (progress : Progress) (order : Order) where
       → act ≡ exchange.on_silence order so_far → act ≡ silence_in progress order
   silence_back act so_far is same = rw is same
 
-  module _ (format : Format) (is-format : format ≡ format_for order) (is : progress ≡ Given) where
+  module _ (format : Format) (is_format : format ≡ format_for order) (is : progress ≡ Given) where
     pub status_due_lem : (first : Exchange) → first ≡ exchange.at_first → format.status ≡ true
         → GoOn first ≡ silence_in progress order
-    status_due_lem first is_first due = rw (is, ← is-format, due, is_first)
+    status_due_lem first is_first due = rw (is, ← is_format, due, is_first)
 
     pub no_status_due : format.status ≡ false → End ≡ silence_in progress order
-    no_status_due none = rw (is, ← is-format, none)
+    no_status_due none = rw (is, ← is_format, none)
 
 pub ruleset decided = (word_back, silence_back, status_due_lem, no_status_due)
 
@@ -103,7 +103,7 @@ module _ (state : Controller) (ram : List ℕ) (message : OpenMessage) where
         → mark ≡ mark_of message.progress → left ≡ ended code mark (desk state ram)
         → left ≡ word_done act message word (desk state ram)
     unfolding word_done
-    word_faults code mark left is is-mark same = rw (is, ← is-mark) same
+    word_faults code mark left is is_mark same = rw (is, ← is_mark) same
 
     pub word_taken : (cell : ℕ) (so_far : Exchange) (block : Block) (new : Controller)
         (ram' : List ℕ)
@@ -112,21 +112,21 @@ module _ (state : Controller) (ram : List ℕ) (message : OpenMessage) where
         → new ≡ with_message (open_back message.order so_far) state
         → heard_as Absent (desk new ram') ≡ word_done act message word (desk state ram)
     unfolding word_done
-    word_taken cell so_far block new ram' is is_Block is-ram is_new =
-        rw (is, ← is_Block, ← is-ram, ← is_new)
+    word_taken cell so_far block new ram' is is_Block is_ram is_new =
+        rw (is, ← is_Block, ← is_ram, ← is_new)
 
   module _ (act : SilenceAct) where
     pub silence_faults : (code : ℕ) (mark : Bool) (left : Heard) → act ≡ silent.Fault code
         → mark ≡ mark_of message.progress → left ≡ ended code mark (desk state ram)
         → left ≡ silence_done act message (desk state ram)
     unfolding silence_done
-    silence_faults code mark left is is-mark same = rw (is, ← is-mark) same
+    silence_faults code mark left is is_mark same = rw (is, ← is_mark) same
 
     pub silence_ends : (mark : Bool) (left : Heard) → act ≡ End
         → mark ≡ mark_of message.progress → left ≡ ended 0 mark (desk state ram)
         → left ≡ silence_done act message (desk state ram)
     unfolding silence_done
-    silence_ends mark left is is-mark same = rw (is, ← is-mark) same
+    silence_ends mark left is is_mark same = rw (is, ← is_mark) same
 
     pub silence_goes_on : (so_far : Exchange) (new : Controller) → act ≡ GoOn so_far
         → new ≡ with_message (open_back message.order so_far) state
@@ -156,10 +156,10 @@ module _ (state : Controller) (ram : List ℕ) (word : Word) where
         → left ≡ word_done act message word (desk state ram)
         → left ≡ word_step word (desk state ram)
     unfolding word_step word_met
-    word_here act left same is-act is_left =
+    word_here act left same is_act is_left =
         let here : word_met (Open message) word (desk state ram)
         ≡ word_done act message word (desk state ram) =
-        rw (← is_line_lem, not-false (beq word.line line) same, ← is-act) refl in
+        rw (← is_line_lem, not-false (beq word.line line) same, ← is_act) refl in
         is_left
         ∙ sym (ap (λ (any : Message). word_met any word (desk state ram)) is ∙ here)
 
@@ -181,10 +181,10 @@ module _ (state : Controller) (ram : List ℕ) (on : Bool) where
         → left ≡ silence_done act message (desk state ram)
         → left ≡ silence_step on (desk state ram)
     unfolding silence_step silence_met
-    silence_here act left same is-act is_left =
+    silence_here act left same is_act is_left =
         let here : silence_met (Open message) on (desk state ram)
         ≡ silence_done act message (desk state ram) =
-        rw (← is_line_lem, not-false (beq on line) same, ← is-act) refl in
+        rw (← is_line_lem, not-false (beq on line) same, ← is_act) refl in
         is_left
         ∙ sym (ap (λ (any : Message). silence_met any on (desk state ram)) is ∙ here)
 

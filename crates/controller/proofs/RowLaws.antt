@@ -49,20 +49,20 @@ module _ (state : Controller) where
         Open (record { order = message.order; progress = progress })) is)
         ∙ rw (is_open, is)
 
-    module _ (so_far : Exchange) (is-back : message.progress ≡ Back so_far) where
+    module _ (so_far : Exchange) (is_back : message.progress ≡ Back so_far) where
       pub back_taken : (taken : ℕ) (new : Controller)
           → new
           ≡ with_message (open_back message.order
           (exchange_of so_far.stage taken so_far.mark)) state
           → new ≡ with_taken taken state
       unfolding with_taken with_message
-      back_taken taken new is_new = rw (is_open, is-back) is_new
+      back_taken taken new is_new = rw (is_open, is_back) is_new
 
       pub back_wants : (format : Format) (wanted : Wanted) → format ≡ format_for message.order
           → wanted ≡ wanted_at so_far.stage state.control format so_far.taken
           → wanted ≡ words_wanted state
       unfolding words_wanted
-      back_wants format wanted is-format is-wanted = rw (is_open, is-back, ← is-format) is-wanted
+      back_wants format wanted is_format is_wanted = rw (is_open, is_back, ← is_format) is_wanted
 
 -- no word of a reply stands above the highest cell
 pub reply_in_cells : (order : Order) (format : Format) → format ≡ format_for order
@@ -97,7 +97,7 @@ module _ (control : ℕ) (format : Format) (so_far : Exchange) where
     wants_words block line more is_Block is_line_lem =
         rw (is, lt-ltb so_far.taken format.reply more, is_Block, is_line_lem)
 
-pub ruleset wanted-at = (wants_before, wants_last, wants_ended, wants_none, wants_words)
+pub ruleset wanted_at_lem = (wants_before, wants_last, wants_ended, wants_none, wants_words)
 
 pub ruleset words_wanted_lem = (idle_wants, given_wants, back_wants, reply_in_cells)
 

@@ -39,13 +39,13 @@ order_read state ram row broadcast block first second is_Block is_first is_secon
     rw (← is_Block, ← is_first, ← is_second_lem)
 
 module _ (state : Controller) (ram : List ℕ) (idle : Bool)
-    (is-idle : idle ≡ is_idle state.message)
+    (is_idle_lem : idle ≡ is_idle state.message)
   where
     pub none_starts : not (state.due && idle && leb 1 state.count) ≡ true
         → started_as 0 Nothing (desk state ram) ≡ start_step (desk state ram)
     unfolding start_step
-    none_starts may-not =
-        rw (← is-idle, not-true (state.due && idle && leb 1 state.count) may-not)
+    none_starts may_not =
+        rw (← is_idle_lem, not-true (state.due && idle && leb 1 state.count) may_not)
 
     module _ (may : not (state.due && idle && leb 1 state.count) ≡ false) where
       pub a_start_is_left : 1 ≤ state.count
@@ -55,16 +55,16 @@ module _ (state : Controller) (ram : List ℕ) (idle : Bool)
           (not-false (state.due && idle && leb 1 state.count) may))
 
       module _ (code : ℕ) (found : Coded) (is_code : code ≡ code_in state.control)
-          (is-coded : found ≡ coded_by code) where
+          (is_coded : found ≡ coded_by code) where
         pub table_lacks : found ≡ coded.Lacking
             → started_as 14 Nothing (desk state ram) ≡ start_step (desk state ram)
         unfolding start_step starting_by
         table_lacks lacks =
             rw (
-              ← is-idle,
+              ← is_idle_lem,
               not-false (state.due && idle && leb 1 state.count) may,
               ← is_code,
-              ← is-coded,
+              ← is_coded,
               lacks,
             )
 
@@ -75,16 +75,16 @@ module _ (state : Controller) (ram : List ℕ) (idle : Bool)
             → block ≡ block_in state.control → new ≡ with_order order state
             → started_as 0 (Words block format.given) (desk new ram) ≡ start_step (desk state ram)
         unfolding start_step starting_by starting
-        words_given_lem row broadcast order format block new has is-order is-format is_Block
+        words_given_lem row broadcast order format block new has is_order is_format is_Block
             is_new =
             rw (
-              ← is-idle,
+              ← is_idle_lem,
               not-false (state.due && idle && leb 1 state.count) may,
               ← is_code,
-              ← is-coded,
+              ← is_coded,
               has,
-              ← is-order,
-              ← is-format,
+              ← is_order,
+              ← is_format,
               ← is_Block,
               ← is_new,
             )

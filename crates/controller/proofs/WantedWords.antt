@@ -64,7 +64,7 @@ module _ (state : Controller) (block : Block) (cell end : ℕ) (on : Bool) (take
       → wanted_at Reply state.control (format_for order) so_far.taken
       ≡ Words block cell end on taken
       → Told
-  in_reply order so_far is_open is-stage =
+  in_reply order so_far is_open is_stage =
       go (ltb so_far.taken (format_for order).reply) refl where
         go : (test : Bool) → ltb so_far.taken (format_for order).reply ≡ test
             → cond test (Words (block_in state.control)
@@ -81,7 +81,7 @@ module _ (state : Controller) (block : Block) (cell end : ℕ) (on : Bool) (take
                   is_open
                   ∙ ap (λ (any : Stage).
                   open_back order (exchange_of any so_far.taken so_far.mark))
-                  is-stage
+                  is_stage
                   ∙ ap (λ (any : ℕ).
                   open_back order (exchange_of Reply any so_far.mark)) same_taken;
               more = rw same_taken at (ltb-true so_far.taken (format_for order).reply is);

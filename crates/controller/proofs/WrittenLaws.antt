@@ -138,7 +138,7 @@ unfolding start_step
 start_writes_nothing old =
     by_test (λ (started : Started). started.desk.ram ≡ old.ram) (may_start old.state)
     (λ may. code_writes_nothing (coded_by (code_in old.state.control)) old)
-    (λ may-not. refl)
+    (λ may_not. refl)
 
 -- the open message is one
 open_message : {one other : OpenMessage} → Open one ≡ Open other → one ≡ other

@@ -2,10 +2,10 @@
 -- every byte of the buffer. Assumes nothing.
 use Rattle.rules.proofs.Determined.{DeterminedAs, same}
 use Rattle.lines.specs.Written.{Put, put}
-use Rattle.controller_cells.proofs.state.put_state.Kinds as put-state-kinds
-use Rattle.controller_cells.proofs.state.put_state.Reads as put-state-reads
+use Rattle.controller_cells.proofs.state.put_state.Kinds as put_state_kinds
+use Rattle.controller_cells.proofs.state.put_state.Reads as put_state_reads
 
 pub put_state :
-    DeterminedAs 1 put-state-kinds.ps put-state-kinds.r put-state-reads.Post Put
+    DeterminedAs 1 put_state_kinds.ps put_state_kinds.r put_state_reads.Post Put
     (λ κs result exit. put result exit.0.now)
 put_state κs arguments result result' exit exit' = same

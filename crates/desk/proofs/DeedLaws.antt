@@ -37,8 +37,8 @@ module _ (told : SharedField) (window ram : List ℕ) (controller : Controller) 
       → heard_as result (desk left ram') ≡ word_step heard (desk controller ram)
       → done 0 (Ended result) (desk left ram') ≡ comes
   unfolding shared_deed valued_at
-  word_comes marks value time heard result left ram' is is-heard same =
-      rw (is, ← is-heard, ← same)
+  word_comes marks value time heard result left ram' is is_heard same =
+      rw (is, ← is_heard, ← same)
 
   pub silence_comes : (line time : ℕ) (result : Result) (left : Controller)
       → told ≡ shared.Silence line time
@@ -52,12 +52,12 @@ module _ (told : SharedField) (window ram : List ℕ) (controller : Controller) 
       → ram' ≡ with_written ram address window first count → left ≡ quiet controller
       → done left.refusal left.answer (desk left.controller ram') ≡ comes
   unfolding shared_deed valued_at
-  write_comes address first count left ram' is there is-ram is_left =
+  write_comes address first count left ram' is there is_ram is_left =
       let named : Shared told ≡ Shared (shared.HostWrite address first count) = rw is in
       rw (
         is,
         is_left,
-        is-ram,
+        is_ram,
         words_written ram window address first count (there.few address first count named)
             (there.there address first count named),
       )
@@ -83,7 +83,7 @@ module _ (told : SharedField) (window ram : List ℕ) (controller : Controller) 
     unfolding shared_deed valued_at
     flags_unknown flags is = rw (is, is_left)
 
-pub ruleset shared-deeds = (
+pub ruleset shared_deeds = (
   word_comes,
   silence_comes,
   write_comes,

@@ -65,11 +65,11 @@ module _ (out : List ℕ) (at : ℕ) (ram : List ℕ) (given : Given) where
       → given ≡ Words block count → words ≡ controller.given_part ram block count
       → put next after ≡ given_written out at words
       → put next after ≡ line_written out at (given_text ram given)
-  words_given_lem next after block count words is is-words is-put =
-      rw (is, is-put, is-words)
+  words_given_lem next after block count words is is_words is_put =
+      rw (is, is_put, is_words)
       (few_given out at (controller.given_part ram block count) (few_given_words ram block count))
 
-pub ruleset given-lines = (nothing_given, words_given_lem)
+pub ruleset given_lines = (nothing_given, words_given_lem)
 
 -- ---- the result, and either
 
@@ -82,19 +82,19 @@ module _ (out : List ℕ) (at : ℕ) where
     pub result_came : (result : Result) (code : ℕ) (mark : Bool) → result ≡ Came code mark
         → put next after ≡ line_written out at (result_line code mark)
         → put next after ≡ line_written out at (result_text result)
-    result_came result code mark is is-put = rw is is-put
+    result_came result code mark is is_put = rw is is_put
 
     module _ (ram : List ℕ) (answer : Answer) where
       pub gave_line : (given : Given) → answer ≡ Gave given
           → put next after ≡ line_written out at (given_text ram given)
           → put next after ≡ line_written out at (answer_line ram answer)
-      gave_line given is is-put = rw is is-put
+      gave_line given is is_put = rw is is_put
 
       pub ended_line : (result : Result) → answer ≡ Ended result
           → put next after ≡ line_written out at (result_text result)
           → put next after ≡ line_written out at (answer_line ram answer)
-      ended_line result is is-put = rw is is-put
+      ended_line result is is_put = rw is is_put
 
-pub ruleset result-lines = (no_result, result_came)
+pub ruleset result_lines = (no_result, result_came)
 
-pub ruleset answer-lines = (gave_line, ended_line)
+pub ruleset answer_lines = (gave_line, ended_line)

@@ -61,13 +61,13 @@ module _ (window : List ℕ) (last : Bool) (start : Passed Run) (most : ℕ) whe
         → length new.run.desk.ram ≡ length ram'
         → length new.out ≡ length out
         → Leads window last start most new (left' - 1)
-    leads_on going new so_far some is_going_lem goes is-room row is_new row-long ram-long out-long =
+    leads_on going new so_far some is_going_lem goes is_room row is_new row_long ram_long out_long =
         record {
           leads =
               rows.leads_on desk_course window last start most room (passed_of old ram out)
-              (passed_of next ram' out) left left' so_far.leads is-room row.turns_taken
-              row.same_stop row.same_put refl going new some is_going_lem goes is_new out-long;
-          ram_as_long = ram-long ∙ row-long ∙ so_far.ram_as_long;
+              (passed_of next ram' out) left left' so_far.leads is_room row.turns_taken
+              row.same_stop row.same_put refl going new some is_going_lem goes is_new out_long;
+          ram_as_long = ram_long ∙ row_long ∙ so_far.ram_as_long;
         }
 
 pub ruleset leading = (

@@ -109,11 +109,11 @@ module _ (bytes : List ℕ) (place size : ℕ) (due : Bool) where
 
   -- the number, test by test
   module _ (left told : ℕ) (is_left : left ≡ bytes_left bytes place)
-      (is-told : told ≡ byte_at bytes (place + 1) * 256 + byte_at bytes (place + 2)) where
+      (is_told : told ≡ byte_at bytes (place + 1) * 256 + byte_at bytes (place + 2)) where
     same_length : told ≡ word_at bytes (place + 1)
     same_length =
         let two : place + 2 ≡ place + 1 + 1 = omega arith in
-        rw (is-told, two)
+        rw (is_told, two)
 
     module _ (headed : 3 ≤ left) where
       pub other_length : (told ≡ size → ⊥) → 7 ≡ own_refusal bytes place size due
@@ -163,7 +163,7 @@ module _ (bytes : List ℕ) (place size : ℕ) (due : Bool) where
   unfolding own_refusal
   length_cut left is_left short = rw (← is_left, lt-ltb left 3 short)
 
-pub ruleset own-refusals = (length_cut, other_length, value_cut, not_in_order, stands)
+pub ruleset own_refusals = (length_cut, other_length, value_cut, not_in_order, stands)
 
 -- ---- what stands at a place
 
@@ -195,7 +195,7 @@ module _ (bytes : List ℕ) (place : ℕ) (seen : Seen) where
             → next ≡ place + 7
             → Taken (Setup control count) next ≡ read_at bytes place seen
         unfolding read_at own_at
-        setup_taken control count next none is_control is-count is_next =
+        setup_taken control count next none is_control is_count is_next =
             let four : place + 4 ≡ place + 3 + 1 = omega arith in
             let six : place + 6 ≡ place + 5 + 1 = omega arith in
             let seven : place + 3 + 4 ≡ next = omega arith in
@@ -205,7 +205,7 @@ module _ (bytes : List ℕ) (place : ℕ) (seen : Seen) where
               ← is,
               eq-eqb number 0 none,
               is_control,
-              is-count,
+              is_count,
               four,
               six,
               seven,
@@ -236,7 +236,7 @@ module _ (bytes : List ℕ) (place : ℕ) (seen : Seen) where
               three,
             )
 
-    module _ (no-setup : byte_at bytes place ≡ setup_tag → ⊥)
+    module _ (no_setup : byte_at bytes place ≡ setup_tag → ⊥)
         (no_start : byte_at bytes place ≡ start_tag → ⊥) where
       pub tag_unknown : not (is_shared (byte_at bytes place)) ≡ true
           → Refused 6 ≡ read_at bytes place seen
@@ -244,7 +244,7 @@ module _ (bytes : List ℕ) (place : ℕ) (seen : Seen) where
       tag_unknown other =
           rw (
             ne_eqb (bytes_left bytes place) 0 left_some,
-            ne_eqb (byte_at bytes place) setup_tag no-setup,
+            ne_eqb (byte_at bytes place) setup_tag no_setup,
             ne_eqb (byte_at bytes place) start_tag no_start,
             not-true (is_shared (byte_at bytes place)) other,
           )
@@ -257,7 +257,7 @@ module _ (bytes : List ℕ) (place : ℕ) (seen : Seen) where
       tag_shared reading shared known is same =
           rw (
             ne_eqb (bytes_left bytes place) 0 left_some,
-            ne_eqb (byte_at bytes place) setup_tag no-setup,
+            ne_eqb (byte_at bytes place) setup_tag no_setup,
             ne_eqb (byte_at bytes place) start_tag no_start,
             not-false (is_shared (byte_at bytes place)) known,
             ← is,

@@ -133,14 +133,14 @@ pub row_after : (old : HeldPassed) (before : ℕ) (taken : Taken) (controller : 
     }
     ≡ passed_after old before taken
 unfolding passed_after
-row_after old before taken controller fields offset is-controller is-fields is-offset =
-    rw (is-controller, is-fields, is-offset)
+row_after old before taken controller fields offset is_controller is_fields is_offset =
+    rw (is_controller, is_fields, is_offset)
 
 -- ---- a row is as many turns
 
 module _ (old : HeldPassed) (window ram ram' : List ℕ) (room most : ℕ) (wanted : Wanted)
     (block : Block) (cell end : ℕ) (line : Bool) (before : ℕ) (taken : Taken)
-    (is-wanted : wanted ≡ words_wanted old.run.controller)
+    (is_wanted : wanted ≡ words_wanted old.run.controller)
     (is : wanted ≡ Words block cell end line before)
     (is_taken_lem : row_left taken ram'
     ≡ row_taken window old.at line old.run.seen.setup room most
@@ -152,7 +152,7 @@ module _ (old : HeldPassed) (window ram ram' : List ℕ) (room most : ℕ) (want
   found = words_taken window old.at line row
 
   told : WantedTold old.run.controller block cell end line before
-  told = wanted_tells old.run.controller block cell end line before (sym is ∙ is-wanted)
+  told = wanted_tells old.run.controller block cell end line before (sym is ∙ is_wanted)
 
   -- where no word was found nothing has changed
   pub none_taken : taken.words ≡ 0 → RowTaken window room most old ram most old ram'

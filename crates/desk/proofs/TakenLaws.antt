@@ -144,8 +144,8 @@ module _ (bytes : List ℕ) (place : ℕ) (seen : Seen) where
   pub reads_on : (reading : Reading) (told : Field) (next : ℕ)
       → reading ≡ read_at bytes place seen → reading ≡ Taken told next
       → WasRead bytes told place next
-  reads_on reading told next is-reading is =
-      let taken : read_at bytes place seen ≡ Taken told next = sym is-reading ∙ is in
+  reads_on reading told next is_reading is =
+      let taken : read_at bytes place seen ≡ Taken told next = sym is_reading ∙ is in
       record {
         words =
             record {

@@ -60,7 +60,7 @@ start_refused old =
     by_test (λ (started : Started). (started.refusal ≡ 0 → ⊥) → started.desk ≡ old)
     (may_start old.state)
     (λ may. code_refused (coded_by (code_in old.state.control)) old)
-    (λ may-not other. refl)
+    (λ may_not other. refl)
 
 shared_not_refused : (told : Valued) (old : Desk) → (shared_deed told old).refusal ≡ 0
 unfolding shared_deed
@@ -94,7 +94,7 @@ start_by_14 old =
     by_test (λ (started : Started). may_go_on started.refusal ≡ eqb started.refusal 0)
     (may_start old.state)
     (λ may. code_by_14 (coded_by (code_in old.state.control)) old)
-    (λ may-not. refl)
+    (λ may_not. refl)
 
 pub refused_by_14 : (bytes : List ℕ) (field : Field) (old : Desk)
     → may_go_on (deed_of bytes field old).refusal ≡ eqb (deed_of bytes field old).refusal 0
@@ -140,14 +140,14 @@ module _ (ran : HeldPassed) (ram out window : List ℕ) (last : Bool) (told : Fi
       }) ram' out'
       ≡ passes
   unfolding pieces.passing took_by taking
-  field_taken out' put' fields offset seen none is-put is_seen is-fields is-offset =
+  field_taken out' put' fields offset seen none is_put is_seen is_fields is_offset =
       rw (
         ← is_left,
         eq-eqb left.refusal 0 none,
-        ← is-put,
+        ← is_put,
         is_seen,
-        is-fields,
-        is-offset,
+        is_fields,
+        is_offset,
       )
 
   pub field_refused : (end : HeldPassed) (put' : ℕ) (stop : Stop) (out' : List ℕ)
@@ -157,7 +157,7 @@ module _ (ran : HeldPassed) (ram out window : List ℕ) (last : Bool) (told : Fi
       → end ≡ record { run = ran.run; at = ran.at; put = put'; stop = stop }
       → passed_of end ram' out' ≡ passes
   unfolding pieces.passing took_by desk_course
-  field_refused end put' stop out' other is-stopped is-end =
+  field_refused end put' stop out' other is_stopped is_end =
       let number : left.refusal ≡ deed.refusal = ap (λ (any : Done). any.refusal) is_left in
       let kept : deed.desk ≡ desk ran.run.controller ram =
       refused_changes_nothing window told (desk ran.run.controller ram)
@@ -165,19 +165,19 @@ module _ (ran : HeldPassed) (ram out window : List ℕ) (last : Bool) (told : Fi
       let same : ram' ≡ ram =
       ap (λ (any : Done). any.desk.ram) is_left ∙ ap (λ (any : Desk). any.ram) kept in
       rw (
-        is-end,
+        is_end,
         same,
         ← number,
         ne_eqb left.refusal 0 other,
-        ← is-stopped,
+        ← is_stopped,
       )
 
-pub ruleset field-passes = (field_taken, field_refused)
+pub ruleset field_passes = (field_taken, field_refused)
 
 -- ---- a turn
 
 module _ (ran : HeldPassed) (ram out window : List ℕ) (last : Bool) (room : ℕ)
-    (is-room : room ≡ length out - ran.put) where
+    (is_room : room ≡ length out - ran.put) where
   abbrev before : pieces.Passed Run
   before = passed_of ran ram out
 
@@ -188,17 +188,17 @@ module _ (ran : HeldPassed) (ram out window : List ℕ) (last : Bool) (room : �
       → left ≡ record { run = ran.run; at = ran.at; put = ran.put; stop = Full }
       → passed_of left ram out ≡ turned
   turn_full left short is_left =
-      rw is_left (general.turn_full desk_course window last before (rw is-room at short))
+      rw is_left (general.turn_full desk_course window last before (rw is_room at short))
 
   module _ (reading : Reading) (enough : line_room ≤ room)
-      (is-reading : reading ≡ read_at window ran.at ran.run.seen) where
+      (is_reading : reading ≡ read_at window ran.at ran.run.seen) where
     turn_by : pieces.passing desk_course
         (met_by reading window ran.at (run_of ran.run ram)) last before
         ≡ turned
     unfolding desk_course
     turn_by =
-        general.turn_by desk_course window last before (rw is-room at enough)
-        (ap (λ (any : Reading). met_by any window ran.at before.run) (sym is-reading))
+        general.turn_by desk_course window last before (rw is_room at enough)
+        (ap (λ (any : Reading). met_by any window ran.at before.run) (sym is_reading))
 
     pub turn_takes : (told : Field) (next : ℕ) (new : pieces.Passed Run)
         → reading ≡ Taken told next
@@ -217,13 +217,13 @@ module _ (ran : HeldPassed) (ram out window : List ℕ) (last : Bool) (room : �
           ≡ pieces.stopped_at 0 last ran.run.fields ran.run.offset out ran.put
           → passed_of left ram out' ≡ turned
       unfolding pieces.passing met_by desk_course
-      turn_ends is is-stopped = rw (← turn_by, is, is_left, ← is-stopped)
+      turn_ends is is_stopped = rw (← turn_by, is, is_left, ← is_stopped)
 
       pub turn_refuses : (number : ℕ) → reading ≡ Refused number
           → pieces.stopped (put put' out') stop
           ≡ pieces.stopped_at number last ran.run.fields ran.run.offset out ran.put
           → passed_of left ram out' ≡ turned
       unfolding pieces.passing met_by desk_course
-      turn_refuses number is is-stopped = rw (← turn_by, is, is_left, ← is-stopped)
+      turn_refuses number is is_stopped = rw (← turn_by, is, is_left, ← is_stopped)
 
 pub ruleset turning = (turn_full, turn_takes, turn_ends, turn_refuses)

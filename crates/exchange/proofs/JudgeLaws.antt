@@ -60,12 +60,12 @@ pub ruleset statuses = (data_sync, strange, answers)
 
 -- ---- room: every number that the code makes can be counted
 
-module _ (order : Order) (format : Format) (is-format : format ≡ format_for order) where
+module _ (order : Order) (format : Format) (is_format : format ≡ format_for order) where
   pub reply_begins : format.given + 1 ≤ 65535
-  reply_begins = omega (arith, last_at_most order, ap last_cell is-format)
+  reply_begins = omega (arith, last_at_most order, ap last_cell is_format)
 
   pub last_stands : format.given + 1 + format.reply ≤ 65535
-  last_stands = omega (arith, last_at_most order, ap last_cell is-format)
+  last_stands = omega (arith, last_at_most order, ap last_cell is_format)
 
   pub data_stand : (taken : ℕ) → leb format.reply taken ≡ false
       → format.given + 1 + taken < 65535
@@ -73,39 +73,39 @@ module _ (order : Order) (format : Format) (is-format : format ≡ format_for or
       omega (
         arith,
         last_at_most order,
-        ap last_cell is-format,
+        ap last_cell is_format,
         leb-false format.reply taken fewer,
       )
 
 -- ---- by the stage
 
 module _ (act : WordAct) (stage : Stage) (order : Order) (exchange : Exchange) (word : Word)
-    (format : Format) (is-format : format ≡ format_for order) where
+    (format : Format) (is_format : format ≡ format_for order) where
   pub word_awaited : (command station : ℕ) → stage ≡ Awaiting
       → command ≡ asking_in order → station ≡ address_of command
       → act ≡ status_heard format.given station Reply exchange word
       → act ≡ word_heard stage order exchange word
   unfolding word_heard
-  word_awaited command station is asks said same = rw (is, ← is-format, ← asks, ← said) same
+  word_awaited command station is asks said same = rw (is, ← is_format, ← asks, ← said) same
 
   pub word_in_reply : stage ≡ Reply
       → act ≡ data_heard (leb format.reply exchange.taken) (format.given + 1) exchange word
       → act ≡ word_heard stage order exchange word
   unfolding word_heard
-  word_in_reply is same = rw (is, ← is-format) same
+  word_in_reply is same = rw (is, ← is_format) same
 
   pub word_awaited_last : (station : ℕ) → stage ≡ AwaitingLast
       → station ≡ address_of order.first
       → act ≡ status_heard (format.given + 1 + format.reply) station Ended exchange word
       → act ≡ word_heard stage order exchange word
   unfolding word_heard
-  word_awaited_last station is said same = rw (is, ← is-format, ← said) same
+  word_awaited_last station is said same = rw (is, ← is_format, ← said) same
 
   pub word_behind : stage ≡ Ended
       → act ≡ data_heard true (format.given + 1) exchange word
       → act ≡ word_heard stage order exchange word
   unfolding word_heard
-  word_behind is same = rw (is, ← is-format) same
+  word_behind is same = rw (is, ← is_format) same
 
 pub ruleset words = (word_awaited, word_in_reply, word_awaited_last, word_behind)
 
@@ -122,24 +122,24 @@ module _ (stage : Stage) (order : Order) (exchange : Exchange) where
   unfolding silence_heard
   ends_behind is = rw is
 
-  module _ (format : Format) (is-format : format ≡ format_for order) (is : stage ≡ Reply) where
+  module _ (format : Format) (is_format : format ≡ format_for order) (is : stage ≡ Reply) where
     pub words_missing : exchange.taken < format.reply
         → silent.Fault 3 ≡ silence_heard stage order exchange
     unfolding silence_heard
-    words_missing few = rw (is, ← is-format, lt-ltb exchange.taken format.reply few)
+    words_missing few = rw (is, ← is_format, lt-ltb exchange.taken format.reply few)
 
     pub last_due : format.reply ≤ exchange.taken → format.last ≡ true
         → GoOn (exchange_of AwaitingLast exchange.taken exchange.mark)
         ≡ silence_heard stage order exchange
     unfolding silence_heard
     last_due all last =
-        rw (is, ← is-format, le-ltb exchange.taken format.reply all, last)
+        rw (is, ← is_format, le-ltb exchange.taken format.reply all, last)
 
     pub ends_with_reply : format.reply ≤ exchange.taken → format.last ≡ false
         → End ≡ silence_heard stage order exchange
     unfolding silence_heard
     ends_with_reply all none =
-        rw (is, ← is-format, le-ltb exchange.taken format.reply all, none)
+        rw (is, ← is_format, le-ltb exchange.taken format.reply all, none)
 
 pub ruleset silences =
     (no_status, no_last_status, ends_behind, words_missing, last_due, ends_with_reply)

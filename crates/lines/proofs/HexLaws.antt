@@ -23,7 +23,7 @@ hex_value_of digits = hex_value_on 0 digits
 
 pub digit_reads_back : (number : ℕ) → number < 16 → hex_digit_value (hex_digit number) ≡ number
 unfolding hex_digit
-digit_reads_back number below-16 =
+digit_reads_back number below_16 =
     elim (dec_lt number 10) [
       | yes below ↦
           rw (lt-ltb number 10 below, lt-ltb (48 + number) 65 (omega arith)) (omega arith)

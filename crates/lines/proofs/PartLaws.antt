@@ -98,8 +98,8 @@ word_digits : (word first second third fourth : ℕ)
     → third ≡ hex_digit (word / 16 % 16) → fourth ≡ hex_digit (word % 16)
     → hex_word word ≡ first ∷ second ∷ third ∷ fourth ∷ []
 unfolding hex_word
-word_digits word first second third fourth first-is second_is third-is fourth-is =
-    rw (first-is, second_is, third-is, fourth-is)
+word_digits word first second third fourth first-is second_is third-is fourth_is =
+    rw (first-is, second_is, third-is, fourth_is)
 
 module _ {out : List ℕ} {at : ℕ} {after : List ℕ} {next : ℕ} where
   pub wrote_hex_byte : (byte : ℕ) {high low : ℕ} → Wrote out at (high ∷ low ∷ []) after next

@@ -77,8 +77,8 @@ module _ (asked : Asked) (kind : Kind) (command subaddress words code : ℕ) (ce
       → with asked asked.illegal words asked.sends true true asked.fresh asked.last
       asked.switch ≡ asked_by kind command
   unfolding asked_by
-  kind_receive is is-subaddress is-words same =
-      rw (is, ← is-subaddress, ← is-words, same)
+  kind_receive is is_subaddress is_words same =
+      rw (is, ← is_subaddress, ← is_words, same)
 
   pub kind_transmit : kind ≡ Transmit
       → subaddress ≡ subaddress_of command → words ≡ words_of command
@@ -86,8 +86,8 @@ module _ (asked : Asked) (kind : Kind) (command subaddress words code : ℕ) (ce
       → with asked asked.illegal asked.takes words asked.receive true asked.fresh
       asked.last asked.switch ≡ asked_by kind command
   unfolding asked_by
-  kind_transmit is is-subaddress is-words same =
-      rw (is, ← is-subaddress, ← is-words, same)
+  kind_transmit is is_subaddress is_words same =
+      rw (is, ← is_subaddress, ← is_words, same)
 
   pub kind_status : kind ≡ ModeStatus → asked ≡ bare no_block
       → with asked asked.illegal asked.takes asked.sends asked.receive
@@ -113,7 +113,7 @@ module _ (asked : Asked) (kind : Kind) (command subaddress words code : ℕ) (ce
       → with asked asked.illegal asked.takes 1 asked.receive asked.yields
       asked.fresh asked.last asked.switch ≡ asked_by kind command
   unfolding asked_by
-  kind_send is is_code is-cell same = rw (is, ← is_code, ← is-cell, same)
+  kind_send is is_code is_cell same = rw (is, ← is_code, ← is_cell, same)
 
   pub kind_take : kind ≡ ModeTake → asked ≡ bare (chain (the_cell 31))
       → with asked asked.illegal 1 asked.sends asked.receive asked.yields

@@ -1,58 +1,58 @@
 -- Each public contract of the crate allows one outcome alone. Assumes nothing.
 use Rattle.rules.proofs.Determined.{Determined, same}
-use Rattle.message.proofs.asked.asked_of.Kinds as asked-of-kinds
-use Rattle.message.proofs.asked.asked_of.Reads as asked-of-reads
-use Rattle.message.proofs.state.OpenMessage.wants.Kinds as wants-kinds
-use Rattle.message.proofs.state.OpenMessage.wants.Reads as wants-reads
-use Rattle.message.proofs.state.OpenMessage.asks.Kinds as asks-kinds
-use Rattle.message.proofs.state.OpenMessage.asks.Reads as asks-reads
-use Rattle.message.proofs.judge.is_own.Kinds as is-own-kinds
-use Rattle.message.proofs.judge.is_own.Reads as is-own-reads
-use Rattle.message.proofs.judge.is_second.Kinds as is-second-kinds
-use Rattle.message.proofs.judge.is_second.Reads as is-second-reads
-use Rattle.message.proofs.judge.on_word.Kinds as on-word-kinds
-use Rattle.message.proofs.judge.on_word.Reads as on-word-reads
-use Rattle.message.proofs.judge.on_silence.Kinds as on-silence-kinds
-use Rattle.message.proofs.judge.on_silence.Reads as on-silence-reads
-use Rattle.message.proofs.state.OpenMessage.further.Kinds as further-kinds
-use Rattle.message.proofs.state.OpenMessage.further.Reads as further-reads
-use Rattle.message.proofs.state.moved_message.Kinds as moved-message-kinds
-use Rattle.message.proofs.state.moved_message.Reads as moved-message-reads
-use Rattle.message.proofs.state.has_second.Kinds as has-second-kinds
-use Rattle.message.proofs.state.has_second.Reads as has-second-reads
-use Rattle.message.proofs.state.second_of.Kinds as second-of-kinds
-use Rattle.message.proofs.state.second_of.Reads as second-of-reads
+use Rattle.message.proofs.asked.asked_of.Kinds as asked_of_kinds
+use Rattle.message.proofs.asked.asked_of.Reads as asked_of_reads
+use Rattle.message.proofs.state.OpenMessage.wants.Kinds as wants_kinds
+use Rattle.message.proofs.state.OpenMessage.wants.Reads as wants_reads
+use Rattle.message.proofs.state.OpenMessage.asks.Kinds as asks_kinds
+use Rattle.message.proofs.state.OpenMessage.asks.Reads as asks_reads
+use Rattle.message.proofs.judge.is_own.Kinds as is_own_kinds
+use Rattle.message.proofs.judge.is_own.Reads as is_own_reads
+use Rattle.message.proofs.judge.is_second.Kinds as is_second_kinds
+use Rattle.message.proofs.judge.is_second.Reads as is_second_reads
+use Rattle.message.proofs.judge.on_word.Kinds as on_word_kinds
+use Rattle.message.proofs.judge.on_word.Reads as on_word_reads
+use Rattle.message.proofs.judge.on_silence.Kinds as on_silence_kinds
+use Rattle.message.proofs.judge.on_silence.Reads as on_silence_reads
+use Rattle.message.proofs.state.OpenMessage.further.Kinds as further_kinds
+use Rattle.message.proofs.state.OpenMessage.further.Reads as further_reads
+use Rattle.message.proofs.state.moved_message.Kinds as moved_message_kinds
+use Rattle.message.proofs.state.moved_message.Reads as moved_message_reads
+use Rattle.message.proofs.state.has_second.Kinds as has_second_kinds
+use Rattle.message.proofs.state.has_second.Reads as has_second_reads
+use Rattle.message.proofs.state.second_of.Kinds as second_of_kinds
+use Rattle.message.proofs.state.second_of.Reads as second_of_reads
 
-pub asked_of : Determined 0 asked-of-kinds.ps asked-of-kinds.r asked-of-reads.Post
+pub asked_of : Determined 0 asked_of_kinds.ps asked_of_kinds.r asked_of_reads.Post
 asked_of κs arguments result result' exit exit' = same
 
-pub wants : Determined 0 wants-kinds.ps wants-kinds.r wants-reads.Post
+pub wants : Determined 0 wants_kinds.ps wants_kinds.r wants_reads.Post
 wants κs arguments result result' exit exit' = same
 
-pub asks : Determined 0 asks-kinds.ps asks-kinds.r asks-reads.Post
+pub asks : Determined 0 asks_kinds.ps asks_kinds.r asks_reads.Post
 asks κs arguments result result' exit exit' = same
 
-pub is_own : Determined 0 is-own-kinds.ps is-own-kinds.r is-own-reads.Post
+pub is_own : Determined 0 is_own_kinds.ps is_own_kinds.r is_own_reads.Post
 is_own κs arguments result result' exit exit' = same
 
-pub is_second : Determined 0 is-second-kinds.ps is-second-kinds.r is-second-reads.Post
+pub is_second : Determined 0 is_second_kinds.ps is_second_kinds.r is_second_reads.Post
 is_second κs arguments result result' exit exit' = same
 
-pub on_word : Determined 0 on-word-kinds.ps on-word-kinds.r on-word-reads.Post
+pub on_word : Determined 0 on_word_kinds.ps on_word_kinds.r on_word_reads.Post
 on_word κs arguments result result' exit exit' = same
 
-pub on_silence : Determined 0 on-silence-kinds.ps on-silence-kinds.r on-silence-reads.Post
+pub on_silence : Determined 0 on_silence_kinds.ps on_silence_kinds.r on_silence_reads.Post
 on_silence κs arguments result result' exit exit' = same
 
-pub further : Determined 0 further-kinds.ps further-kinds.r further-reads.Post
+pub further : Determined 0 further_kinds.ps further_kinds.r further_reads.Post
 further κs arguments result result' exit exit' = same
 
 pub moved_message :
-    Determined 0 moved-message-kinds.ps moved-message-kinds.r moved-message-reads.Post
+    Determined 0 moved_message_kinds.ps moved_message_kinds.r moved_message_reads.Post
 moved_message κs arguments result result' exit exit' = same
 
-pub has_second : Determined 0 has-second-kinds.ps has-second-kinds.r has-second-reads.Post
+pub has_second : Determined 0 has_second_kinds.ps has_second_kinds.r has_second_reads.Post
 has_second κs arguments result result' exit exit' = same
 
-pub second_of : Determined 0 second-of-kinds.ps second-of-kinds.r second-of-reads.Post
+pub second_of : Determined 0 second_of_kinds.ps second_of_kinds.r second_of_reads.Post
 second_of κs arguments result result' exit exit' = same

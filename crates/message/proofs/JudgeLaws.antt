@@ -44,7 +44,7 @@ first_told sync receive none answered second outcome is seen = rw (← is) seen
 
 module _ (second : ℕ) (word : Word) (address wanted : ℕ)
     (sound : not word.sound ≡ false) (sync : not word.sync ≡ false)
-    (is_Address : address ≡ address_of word.value) (is-wanted : wanted ≡ address_of second) where
+    (is_Address : address ≡ address_of word.value) (is_wanted : wanted ≡ address_of second) where
   pub status_answers : address ≡ wanted → TakeStatus ≡ in_awaiting_status second word
   unfolding in_awaiting_status
   status_answers same =
@@ -52,7 +52,7 @@ module _ (second : ℕ) (word : Word) (address wanted : ℕ)
         not-false word.sound sound,
         not-false word.sync sync,
         ← is_Address,
-        ← is-wanted,
+        ← is_wanted,
         eq-eqb address wanted same,
       )
 
@@ -63,7 +63,7 @@ module _ (second : ℕ) (word : Word) (address wanted : ℕ)
         not-false word.sound sound,
         not-false word.sync sync,
         ← is_Address,
-        ← is-wanted,
+        ← is_wanted,
         ne_eqb address wanted other,
       )
 
@@ -90,7 +90,7 @@ module _ (act : WordAct) (stage : Stage) (station : ℕ) (asked : Asked) (messag
       → act ≡ word_in_stage stage station asked message word
   word_in_skipping is same = rw is same
 
-pub ruleset word-stages =
+pub ruleset word_stages =
     (word_in_data, word_in_second_command, word_in_awaiting_status, word_in_skipping)
 
 module _ (act : SilenceAct) (stage : Stage) (asked : Asked) (message : OpenMessage) where
@@ -112,7 +112,7 @@ module _ (act : SilenceAct) (stage : Stage) (asked : Asked) (message : OpenMessa
       → act ≡ silence_in_stage stage asked message
   silence_in_skipping is same = rw is same
 
-pub ruleset silence-stages =
+pub ruleset silence_stages =
     (silence_in_data, silence_in_second_command, silence_in_awaiting_status, silence_in_skipping)
 
 -- ---- superseding, elsewhere, or by the stage
@@ -139,4 +139,4 @@ module _ (station flags : ℕ) (asked : Asked) (message : OpenMessage) (word : W
       unfolding on_word
       word_here act fails same = rw (← is_own_lem, stays, fails) same
 
-pub ruleset on-words = (word_supersedes, word_elsewhere, word_here)
+pub ruleset on_words = (word_supersedes, word_elsewhere, word_here)

@@ -3,22 +3,22 @@
 use Rattle.rules.proofs.Determined.{Determined, DeterminedAs, same}
 use Rattle.lines.specs.Written.{Put, put}
 use Rattle.pieces.specs.AsCoded.Window.{Stopped, stopped}
-use Rattle.pieces.proofs.stop.Stop.is_going.Kinds as is-going-kinds
-use Rattle.pieces.proofs.stop.Stop.is_going.Reads as is-going-reads
-use Rattle.pieces.proofs.stop.stop_at.Kinds as stop-at-kinds
-use Rattle.pieces.proofs.stop.stop_at.Reads as stop-at-reads
-use Rattle.pieces.proofs.rest.keep_rest.Kinds as keep-rest-kinds
-use Rattle.pieces.proofs.rest.keep_rest.Reads as keep-rest-reads
+use Rattle.pieces.proofs.stop.Stop.is_going.Kinds as is_going_kinds
+use Rattle.pieces.proofs.stop.Stop.is_going.Reads as is_going_reads
+use Rattle.pieces.proofs.stop.stop_at.Kinds as stop_at_kinds
+use Rattle.pieces.proofs.stop.stop_at.Reads as stop_at_reads
+use Rattle.pieces.proofs.rest.keep_rest.Kinds as keep_rest_kinds
+use Rattle.pieces.proofs.rest.keep_rest.Reads as keep_rest_reads
 
-pub is_going : Determined 0 is-going-kinds.ps is-going-kinds.r is-going-reads.Post
+pub is_going : Determined 0 is_going_kinds.ps is_going_kinds.r is_going_reads.Post
 is_going κs arguments result result' exit exit' = same
 
 pub stop_at :
-    DeterminedAs 1 stop-at-kinds.ps stop-at-kinds.r stop-at-reads.Post Stopped
+    DeterminedAs 1 stop_at_kinds.ps stop_at_kinds.r stop_at_reads.Post Stopped
     (λ κs result exit. stopped (put result.put exit.0.now) result.stop)
 stop_at κs arguments result result' exit exit' = same
 
 pub keep_rest :
-    DeterminedAs 1 keep-rest-kinds.ps keep-rest-kinds.r keep-rest-reads.Post Put
+    DeterminedAs 1 keep_rest_kinds.ps keep_rest_kinds.r keep_rest_reads.Post Put
     (λ κs result exit. put result exit.0.now)
 keep_rest κs arguments result result' exit exit' = same

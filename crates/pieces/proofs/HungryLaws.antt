@@ -17,10 +17,10 @@ use Rattle.pieces.proofs.TurnLaws.{call_keeps, by_turn}
 stops_waiting : {Run : Type 0} (course : Course Run) (number : ℕ) (last : Bool) (old : Passed Run)
     → (stops_at course number last old).stop ≡ Hungry → may_go_on number ≡ true
 unfolding stopped_at
-stops_waiting course number last old is-hungry = go (not last && may_go_on number) refl where
+stops_waiting course number last old is_hungry = go (not last && may_go_on number) refl where
   go : (test : Bool) → (not last && may_go_on number) ≡ test → may_go_on number ≡ true
   go true is = second_of_both (not last) (may_go_on number) is
-  go false is = absurd (hungry_over (sym (rw is at is-hungry)))
+  go false is = absurd (hungry_over (sym (rw is at is_hungry)))
 
 module _ {Run : Type 0} (course : Course Run) {longest : ℕ} (steady : Steady course longest) where
   pub hungry_few : (window : List ℕ) (last : Bool) (old : Run) (out : List ℕ)

@@ -40,7 +40,7 @@ module _ (start : List ℕ) (at end : ℕ) where
       let turned : at + byte ≡ byte + at = omega arith in
       let next : at + (byte + 1) ≡ suc (at + byte) = omega arith in
       let one_more : byte + 1 ≡ suc byte = omega arith in
-      let as-it-stood : moved ≡ get_or start (at + byte) 0 =
+      let as_it_stood : moved ≡ get_or start (at + byte) 0 =
       rw turned
       (sym (get_or-drop byte window at 0)
       ∙ ap (λ (rest : List ℕ). get_or rest at 0) so_far.behind
@@ -50,7 +50,7 @@ module _ (start : List ℕ) (at end : ℕ) where
             rw (next, one_more)
             (sym (ap (λ (rest : List ℕ). sets window byte rest)
             (slice-cons (at + byte) end start 0 (omega (arith, more)) inside
-            ∙ ap (λ (first : ℕ). first ∷ slice (suc (at + byte)) end start) (sym as-it-stood)))
+            ∙ ap (λ (first : ℕ). first ∷ slice (suc (at + byte)) end start) (sym as_it_stood)))
             ∙ so_far.leads);
         behind =
             drop-set-lt (byte + 1) window byte moved (omega arith)
@@ -65,13 +65,13 @@ module _ (start : List ℕ) (at end : ℕ) where
       → count ≡ end - at → count ≤ byte → Keeping window byte
       → put count window ≡ kept_rest start at end
   unfolding kept_rest
-  keeping_all window count byte inside some is-count done so_far =
-      let all : at + byte ≡ end = omega (arith, is-count, so_far.at_most) in
+  keeping_all window count byte inside some is_count done so_far =
+      let all : at + byte ≡ end = omega (arith, is_count, so_far.at_most) in
       let moved : window ≡ sets start 0 (slice at end start) =
       sym (ap (λ (rest : List ℕ). sets window byte rest)
       (ap (λ (from : ℕ). slice from end start) all ∙ slice_empty end start))
       ∙ so_far.leads in
-      rw (le-leb end (length start) inside, is-count, moved)
+      rw (le-leb end (length start) inside, is_count, moved)
 
   pub kept_past : length start < end → put 0 start ≡ kept_rest start at end
   unfolding kept_rest

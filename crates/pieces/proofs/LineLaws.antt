@@ -32,15 +32,15 @@ module _ (out : List ℕ) (at number fields offset next : ℕ) (after : List ℕ
   pub end_line_lem : number ≡ 0 → put next after ≡ line_written out at (end_line fields)
       → put next after ≡ line_written out at (last_line number fields offset)
   unfolding last_line
-  end_line_lem is is-put = rw is is-put
+  end_line_lem is is_put = rw is is_put
 
   pub refusal_line_lem : (number ≡ 0 → ⊥)
       → put next after ≡ line_written out at (refusal_line number offset)
       → put next after ≡ line_written out at (last_line number fields offset)
   unfolding last_line
-  refusal_line_lem is is-put = rw (ne_eqb number 0 is) is-put
+  refusal_line_lem is is_put = rw (ne_eqb number 0 is) is_put
 
-pub ruleset last-lines = (end_line_lem, refusal_line_lem)
+pub ruleset last_lines = (end_line_lem, refusal_line_lem)
 
 -- ---- its length
 

@@ -44,7 +44,7 @@ more_lines each put at next line few further short =
     omega (arith, few, short, both)
 
 module _ {Run : Type 0} (course : Course Run) {longest : ℕ} (steady : Steady course longest)
-    (each : ℕ) (short-lines : ShortLines course each) (window first : List ℕ)
+    (each : ℕ) (short_lines : ShortLines course each) (window first : List ℕ)
     (room : room_of each (length window) ≤ length first) where
   -- ---- what every turn keeps
 
@@ -96,7 +96,7 @@ module _ {Run : Type 0} (course : Course Run) {longest : ℕ} (steady : Steady c
             rw (in_room line_room old.out old.put line enough)
             (more_lines each old.put old.at next (length line) (so_far.few goes)
             (steady.moves_on old.run window old.at is)
-            (short-lines old.run window old.at next line new is));
+            (short_lines old.run window old.at next line new is));
         within = steady.ends_inside old.run window old.at is;
         as_long = length_written line_room old.out old.put line ∙ so_far.as_long;
         behind =

@@ -72,7 +72,7 @@ asked_in : {case : Case}
     → ReadyFor (line_in (rack_of case).desk.state.control) (taken (order_of case) nine) nine
     → AskedIn case
 unfolding told
-asked_in {case} whole ordered coded fit addressed five-may nine-may =
+asked_in {case} whole ordered coded fit addressed five_may nine_may =
     record {
       asked =
           record {
@@ -83,7 +83,7 @@ asked_in {case} whole ordered coded fit addressed five-may nine-may =
             addressed = addressed;
             different = five_and_nine_differ;
             idle = Each.each five_is_idle (Each.each nine_is_idle Each.nobody);
-            ready = Each.each five-may (Each.each nine-may Each.nobody);
+            ready = Each.each five_may (Each.each nine_may Each.nobody);
           };
     }
 

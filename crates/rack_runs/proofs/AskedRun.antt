@@ -56,10 +56,10 @@ module _ (row : Row) (first second : ℕ) (old : Rack) where
       → all_of is_idle_card old.terminals ≡ true
       → all_of (λ terminal. is_ready line (taken order terminal) terminal) old.terminals ≡ true
       → Asked order old
-  asked_by whole may-start coded ordered fit addressed different idle ready =
+  asked_by whole may_start_lem coded ordered fit addressed different idle ready =
       record {
         starts =
-            starts_by row false old.desk whole may-start coded
+            starts_by row false old.desk whole may_start_lem coded
             ∙ ap (λ (any : Order). starting any old.desk) ordered;
         fit = fit;
         addressed = addressed;

@@ -32,7 +32,7 @@ pub starts_by : (row : Row) (broadcast : Bool) (old : Desk) → whole_desk old �
     → may_start old.state ≡ true → coded_by (code_in old.state.control) ≡ Format row broadcast
     → start_action old ≡ starting (order_in row broadcast old) old
 unfolding start_action start_step starting_by
-starts_by row broadcast old whole may-start coded = rw (whole, may-start, coded)
+starts_by row broadcast old whole may_start_lem coded = rw (whole, may_start_lem, coded)
 
 pub idle_by : {terminal : Card} → length terminal.ram ≡ card_words → fit_card terminal ≡ true
     → terminal.core.message ≡ Idle → address_of terminal.core.status ≡ terminal.core.station

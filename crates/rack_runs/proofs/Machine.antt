@@ -17,8 +17,8 @@ use Rattle.terminal.specs.State as states
 use Rattle.terminal.specs.Opening.{opened_message, opened_status, opened_core, opening}
 use Rattle.terminal.specs.Closing as closings
 use Rattle.terminal.specs.Event.{opened_by}
-use Rattle.terminal.specs.WordStep as word-steps
-use Rattle.terminal.specs.SilenceStep as silence-steps
+use Rattle.terminal.specs.WordStep as word_steps
+use Rattle.terminal.specs.SilenceStep as silence_steps
 use Rattle.terminal.specs.Machine.{step}
 use Rattle.terminal.specs.Fitness.{fit_core}
 use Rattle.formats.specs.Code.{code_table, coded_by}
@@ -65,7 +65,7 @@ unfolding opened_message opened_status opened_core opening opened_by
     closings.state_of closings.closed_ram closings.closed_queue closings.closing closings.faulted
     closings.replies closings.reply_of closings.switched_shut closings.switched_inhibit
     closings.end_words closings.ended
-    word-steps.word_done word-steps.word_step silence-steps.silence_done silence-steps.silence_step
+    word_steps.word_done word_steps.word_step silence_steps.silence_done silence_steps.silence_step
     step
 done = 0
 

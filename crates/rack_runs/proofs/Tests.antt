@@ -59,15 +59,15 @@ idle_card old passed =
     let own : Bool = eqb (address_of old.core.status) old.core.station in
     let ended : Bool = has_ended old.core.message in
     let whole : Bool = eqb (length old.ram) card_words in
-    let fit-and = second_of_both whole (fit_card old && (ended && own)) passed in
-    let ended-and = second_of_both (fit_card old) (ended && own) fit-and in
+    let fit_and = second_of_both whole (fit_card old && (ended && own)) passed in
+    let ended_and = second_of_both (fit_card old) (ended && own) fit_and in
     idle_by
     (eqb-true (length old.ram) card_words
     (first_of_both whole (fit_card old && (ended && own)) passed))
-    (first_of_both (fit_card old) (ended && own) fit-and)
-    (ended_is_idle old.core.message (first_of_both ended own ended-and))
+    (first_of_both (fit_card old) (ended && own) fit_and)
+    (ended_is_idle old.core.message (first_of_both ended own ended_and))
     (eqb-true (address_of old.core.status) old.core.station
-    (second_of_both ended own ended-and))
+    (second_of_both ended own ended_and))
 
 -- ---- ready for the command that it takes
 
@@ -87,11 +87,11 @@ ready_card line (some command) old passed =
     let table : Bool =
     eqb (opened_for command old).block.0 (opened_for command old).table.0 in
     let shut : Bool = cond line old.core.shut.b old.core.shut.a in
-    let table-and = second_of_both (not busy) (not table && not shut) passed in
+    let table_and = second_of_both (not busy) (not table && not shut) passed in
     ready_by
     (not-true busy (first_of_both (not busy) (not table && not shut) passed))
-    (not-true table (first_of_both (not table) (not shut) table-and))
-    (not-true shut (second_of_both (not table) (not shut) table-and))
+    (not-true table (first_of_both (not table) (not shut) table_and))
+    (not-true shut (second_of_both (not table) (not shut) table_and))
 
 -- ---- different stations
 

@@ -3,35 +3,35 @@
 use mathlib.Core.List.{List}
 use Prim.Native.Nat.{ℕ}
 use Rattle.rules.proofs.Determined.{Determined, DeterminedAs, same}
-use Rattle.recording.proofs.seen.Seen.nothing.Kinds as nothing-kinds
-use Rattle.recording.proofs.seen.Seen.nothing.Reads as nothing-reads
-use Rattle.recording.proofs.seen.Seen.after.Kinds as after-kinds
-use Rattle.recording.proofs.seen.Seen.after.Reads as after-reads
-use Rattle.recording.proofs.reading.read_field.Kinds as read-field-kinds
-use Rattle.recording.proofs.reading.read_field.Reads as read-field-reads
-use Rattle.recording.proofs.words.find_word.Kinds as find-word-kinds
-use Rattle.recording.proofs.words.find_word.Reads as find-word-reads
-use Rattle.recording.proofs.words.write_words.Kinds as write-words-kinds
-use Rattle.recording.proofs.words.write_words.Reads as write-words-reads
-use Rattle.recording.proofs.bytes.of_bytes.Kinds as of-bytes-kinds
-use Rattle.recording.proofs.bytes.of_bytes.Reads as of-bytes-reads
+use Rattle.recording.proofs.seen.Seen.nothing.Kinds as nothing_kinds
+use Rattle.recording.proofs.seen.Seen.nothing.Reads as nothing_reads
+use Rattle.recording.proofs.seen.Seen.after.Kinds as after_kinds
+use Rattle.recording.proofs.seen.Seen.after.Reads as after_reads
+use Rattle.recording.proofs.reading.read_field.Kinds as read_field_kinds
+use Rattle.recording.proofs.reading.read_field.Reads as read_field_reads
+use Rattle.recording.proofs.words.find_word.Kinds as find_word_kinds
+use Rattle.recording.proofs.words.find_word.Reads as find_word_reads
+use Rattle.recording.proofs.words.write_words.Kinds as write_words_kinds
+use Rattle.recording.proofs.words.write_words.Reads as write_words_reads
+use Rattle.recording.proofs.bytes.of_bytes.Kinds as of_bytes_kinds
+use Rattle.recording.proofs.bytes.of_bytes.Reads as of_bytes_reads
 
-pub nothing_seen : Determined 0 nothing-kinds.ps nothing-kinds.r nothing-reads.Post
+pub nothing_seen : Determined 0 nothing_kinds.ps nothing_kinds.r nothing_reads.Post
 nothing_seen κs arguments result result' exit exit' = same
 
-pub seen_after : Determined 0 after-kinds.ps after-kinds.r after-reads.Post
+pub seen_after : Determined 0 after_kinds.ps after_kinds.r after_reads.Post
 seen_after κs arguments result result' exit exit' = same
 
-pub read_field : Determined 1 read-field-kinds.ps read-field-kinds.r read-field-reads.Post
+pub read_field : Determined 1 read_field_kinds.ps read_field_kinds.r read_field_reads.Post
 read_field κs arguments result result' exit exit' = same
 
-pub find_word : Determined 1 find-word-kinds.ps find-word-kinds.r find-word-reads.Post
+pub find_word : Determined 1 find_word_kinds.ps find_word_kinds.r find_word_reads.Post
 find_word κs arguments result result' exit exit' = same
 
 pub write_words :
-    DeterminedAs 2 write-words-kinds.ps write-words-kinds.r write-words-reads.Post (List ℕ)
+    DeterminedAs 2 write_words_kinds.ps write_words_kinds.r write_words_reads.Post (List ℕ)
     (λ κs result exit. exit.1.1.1.0.now)
 write_words κs arguments result result' exit exit' = same
 
-pub of_bytes : Determined 0 of-bytes-kinds.ps of-bytes-kinds.r of-bytes-reads.Post
+pub of_bytes : Determined 0 of_bytes_kinds.ps of_bytes_kinds.r of_bytes_reads.Post
 of_bytes κs arguments result result' exit exit' = same

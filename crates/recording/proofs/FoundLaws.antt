@@ -50,7 +50,7 @@ module _ (bytes : List ℕ) (place marks left : ℕ) (is_left : left ≡ bytes_l
         → value ≡ word_at bytes (place + 4)
         → Value value (place + 10) ≡ word_found bytes place marks
     unfolding word_found
-    found_word value is is-value = rw (long, not-false (starts_word bytes place marks) is, is-value)
+    found_word value is is_value = rw (long, not-false (starts_word bytes place marks) is, is_value)
 
 pub ruleset finding = (found_short, found_other, found_word)
 
@@ -123,8 +123,8 @@ module _ (bytes : List ℕ) (place marks : ℕ) (few : marks ≤ all_marks) (see
           → Read (Value (word_at bytes (place + 4)) (place + 10))
       go is =
           let long = leb 10 (bytes_left bytes place) in
-          let to-marked = second_of_both long (tag && high && low && marked) is in
-          let to_low = first_of_both (tag && high && low) marked to-marked in
+          let to_marked = second_of_both long (tag && high && low && marked) is in
+          let to_low = first_of_both (tag && high && low) marked to_marked in
           let to_high = first_of_both (tag && high) low to_low in
           let whole : 10 ≤ bytes_left bytes place =
           leb-true 10 (bytes_left bytes place)
@@ -138,7 +138,7 @@ module _ (bytes : List ℕ) (place marks : ℕ) (few : marks ≤ all_marks) (see
                 (eqb-true (byte_at bytes (place + 1)) 0 (second_of_both tag high to_high))
                 (eqb-true (byte_at bytes (place + 2)) 7 (second_of_both (tag && high) low to_low))
                 (eqb-true (byte_at bytes (place + 3)) marks
-                (second_of_both (tag && high && low) marked to-marked)),
+                (second_of_both (tag && high && low) marked to_marked)),
           )
 
   module _ {value next : ℕ} (is : word_found bytes place marks ≡ Value value next) where

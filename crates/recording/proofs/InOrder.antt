@@ -90,16 +90,16 @@ setup_in_order : (station table flags : ℕ)
     → value_refusal card_blocks (Setup station table flags) ≡ 0 → SetupInOrder station table flags
 setup_in_order station table flags in_order =
     let by_flags : ℕ = cond (not (are_flags flags)) 8 0 in
-    let by-table : ℕ = cond (not (is_block card_blocks (the_block table))) 3 by_flags in
-    let behind-station : by-table ≡ 0 = further 1 by-table (is_station station) in_order in
-    let behind-table : by_flags ≡ 0 =
-    further 2 by_flags (is_block card_blocks (the_block table)) behind-station in
+    let by_table : ℕ = cond (not (is_block card_blocks (the_block table))) 3 by_flags in
+    let behind_station : by_table ≡ 0 = further 1 by_table (is_station station) in_order in
+    let behind_table : by_flags ≡ 0 =
+    further 2 by_flags (is_block card_blocks (the_block table)) behind_station in
     record {
       station_at_most =
-          leb-true station last_station (passed 1 by-table (is_station station) in_order);
+          leb-true station last_station (passed 1 by_table (is_station station) in_order);
       table_on_card =
-          ltb-true table card_blocks (passed 2 by_flags (ltb table card_blocks) behind-station);
-      flags_at_most = within all_flags flags behind-table;
+          ltb-true table card_blocks (passed 2 by_flags (ltb table card_blocks) behind_station);
+      flags_at_most = within all_flags flags behind_table;
     }
 
 -- the words of a host write fill the rest of its value

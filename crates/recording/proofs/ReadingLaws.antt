@@ -32,14 +32,14 @@ module _ (bytes : List ℕ) (place : ℕ) (seen : Seen) where
     unfolding read_at
     read_end none = rw (eq-eqb (bytes_left bytes place) 0 (sym is_left ∙ none))
 
-    module _ (some : left ≡ 0 → ⊥) (tag : Tag) (is-tag : tag ≡ tag_at bytes place)
+    module _ (some : left ≡ 0 → ⊥) (tag : Tag) (is_tag : tag ≡ tag_at bytes place)
         (unknown : Bool) (is : unknown ≡ is_unknown tag) where
       some_left : eqb (bytes_left bytes place) 0 ≡ false
       some_left = ne_eqb (bytes_left bytes place) 0 (λ none. some (is_left ∙ none))
 
       pub read_unknown : unknown ≡ true → Refused 6 place ≡ read_at bytes place seen
       unfolding read_at
-      read_unknown holds = rw (some_left, ← is-tag, told unknown (is_unknown tag) true is holds)
+      read_unknown holds = rw (some_left, ← is_tag, told unknown (is_unknown tag) true is holds)
 
       module _ (is_Known : unknown ≡ false) where
         tag_known : is_unknown tag ≡ false
@@ -48,9 +48,9 @@ module _ (bytes : List ℕ) (place : ℕ) (seen : Seen) where
         pub read_no_length : left < 3 → Refused 5 place ≡ read_at bytes place seen
         unfolding read_at
         read_no_length short =
-            rw (some_left, ← is-tag, tag_known, lt-ltb (bytes_left bytes place) 3 (omega arith))
+            rw (some_left, ← is_tag, tag_known, lt-ltb (bytes_left bytes place) 3 (omega arith))
 
-        module _ (whole : 3 ≤ left) (size : ℕ) (is-size : size ≡ word_at bytes (place + 1))
+        module _ (whole : 3 ≤ left) (size : ℕ) (is_size : size ≡ word_at bytes (place + 1))
             (fit : Bool) (is_fit : fit ≡ length_fits tag size) where
           long_enough : ltb (bytes_left bytes place) 3 ≡ false
           long_enough = le-ltb (bytes_left bytes place) 3 (omega arith)
@@ -60,10 +60,10 @@ module _ (bytes : List ℕ) (place : ℕ) (seen : Seen) where
           read_other_length unfit =
               rw (
                 some_left,
-                ← is-tag,
+                ← is_tag,
                 tag_known,
                 long_enough,
-                ← is-size,
+                ← is_size,
                 denied fit (length_fits tag size) is_fit unfit,
               )
 
@@ -76,10 +76,10 @@ module _ (bytes : List ℕ) (place : ℕ) (seen : Seen) where
             read_no_value short =
                 rw (
                   some_left,
-                  ← is-tag,
+                  ← is_tag,
                   tag_known,
                   long_enough,
-                  ← is-size,
+                  ← is_size,
                   length_fits_lem,
                   lt-ltb (bytes_left bytes place) (3 + size) (omega arith),
                 )
@@ -88,26 +88,26 @@ module _ (bytes : List ℕ) (place : ℕ) (seen : Seen) where
               value_whole : ltb (bytes_left bytes place) (3 + size) ≡ false
               value_whole = le-ltb (bytes_left bytes place) (3 + size) (omega arith)
 
-              module _ (due : Bool) (is-due : due ≡ is_due tag seen) where
+              module _ (due : Bool) (is_due_lem : due ≡ is_due tag seen) where
                 pub read_out_of_turn : not due ≡ true → Refused 9 place ≡ read_at bytes place seen
                 unfolding read_at
-                read_out_of_turn not-due =
+                read_out_of_turn not_due =
                     rw (
                       some_left,
-                      ← is-tag,
+                      ← is_tag,
                       tag_known,
                       long_enough,
-                      ← is-size,
+                      ← is_size,
                       length_fits_lem,
                       value_whole,
-                      denied due (is_due tag seen) is-due not-due,
+                      denied due (is_due tag seen) is_due_lem not_due,
                     )
 
-                module _ (in-turn : not due ≡ false) (number : ℕ) (field : Field)
+                module _ (in_turn : not due ≡ false) (number : ℕ) (field : Field)
                     (is_number : number ≡ value_refusal card_blocks field)
                     (is_field : field ≡ field_at bytes tag (place + 3) size) where
                   tag_due : is_due tag seen ≡ true
-                  tag_due = granted due (is_due tag seen) is-due in-turn
+                  tag_due = granted due (is_due tag seen) is_due_lem in_turn
 
                   pub read_refused : (number ≡ 0 → ⊥)
                       → Refused number place ≡ read_at bytes place seen
@@ -115,10 +115,10 @@ module _ (bytes : List ℕ) (place : ℕ) (seen : Seen) where
                   read_refused not_in_order =
                       rw (
                         some_left,
-                        ← is-tag,
+                        ← is_tag,
                         tag_known,
                         long_enough,
-                        ← is-size,
+                        ← is_size,
                         length_fits_lem,
                         value_whole,
                         tag_due,
@@ -133,10 +133,10 @@ module _ (bytes : List ℕ) (place : ℕ) (seen : Seen) where
                   read_taken in_order =
                       rw (
                         some_left,
-                        ← is-tag,
+                        ← is_tag,
                         tag_known,
                         long_enough,
-                        ← is-size,
+                        ← is_size,
                         length_fits_lem,
                         value_whole,
                         tag_due,

@@ -72,13 +72,13 @@ module _ (ram bytes : List ℕ) (address first count : ℕ) where
         → words' ≡ sets words 0 (words_at bytes first count)
         → ram' ≡ sets ram address (take (count - 0) (drop 0 words'))
         → ram' ≡ with_written ram address bytes first count
-    copied_written left words words' ram' is there long is-words is-ram =
+    copied_written left words words' ram' is there long is_words is_ram =
         let copied : List ℕ = words_at bytes first count in
         let all : count - 0 ≡ count = omega arith in
         let as_many : length copied ≡ count = length_words_at bytes first count in
         let front : take count words' ≡ copied =
-        rw (is-words, sets-eq copied words 0 (omega arith))
+        rw (is_words, sets-eq copied words 0 (omega arith))
         (take_at copied (drop (0 + length copied) words) count as_many) in
-        rw (is-ram, all, front, words_written (omega arith))
+        rw (is_ram, all, front, words_written (omega arith))
 
 pub ruleset writings = (too_many_written, not_there_written, copied_written)

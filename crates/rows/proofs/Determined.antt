@@ -2,10 +2,10 @@
 -- that was lent. Assumes nothing.
 use Rattle.rules.proofs.Determined.{DeterminedAs, same}
 use Rattle.rows.specs.Row.{RowLeft, row_left}
-use Rattle.rows.proofs.Row.take.Kinds as take-kinds
-use Rattle.rows.proofs.Row.take.Reads as take-reads
+use Rattle.rows.proofs.Row.take.Kinds as take_kinds
+use Rattle.rows.proofs.Row.take.Reads as take_reads
 
 pub take :
-    DeterminedAs 2 take-kinds.ps take-kinds.r take-reads.Post RowLeft
+    DeterminedAs 2 take_kinds.ps take_kinds.r take_reads.Post RowLeft
     (λ κs result exit. row_left result exit.1.0.now)
 take κs arguments result result' exit exit' = same

@@ -42,7 +42,7 @@ nothing_taken =
     record {
       fewer = omega arith;
       some_left = λ some. some;
-      leads = λ last put out is-room. refl;
+      leads = λ last put out is_room. refl;
     }
 
 -- ---- words are turns
@@ -82,10 +82,10 @@ module _ {Run Machine : Type 0} {course : Course Run} {run : Machine → ℕ →
         ≡ turns course (0 + left) window last (among at old fields offset)
     no_word left at old fields offset counts =
         let same_at : at + 10 * 0 ≡ at = omega arith in
-        let same-fields : counted (fields + 0) ≡ fields = omega (arith, counts.few) in
-        let same-offset : counted (offset + 10 * 0) ≡ offset = omega (arith, counts.near) in
+        let same_fields : counted (fields + 0) ≡ fields = omega (arith, counts.few) in
+        let same_offset : counted (offset + 10 * 0) ≡ offset = omega (arith, counts.near) in
         let same_left : 0 + left ≡ left = omega arith in
-        rw (hearing.none_heard old, same_at, same-fields, same-offset, same_left)
+        rw (hearing.none_heard old, same_at, same_fields, same_offset, same_left)
 
     words_are_turns : (fuel left at : ℕ) (old : Machine) (fields offset : ℕ)
         → Wants line fuel old
@@ -123,12 +123,12 @@ module _ {Run Machine : Type 0} {course : Course Run} {run : Machine → ℕ →
             let moved : next ≡ at + 10 = found_next window line at value next is in
             let same_at : at + 10 * suc (length rest) ≡ next + 10 * length rest =
             omega (arith, moved) in
-            let same-fields : counted (fields + suc (length rest))
+            let same_fields : counted (fields + suc (length rest))
             ≡ counted (counted (fields + 1) + length rest) = omega arith in
-            let same-offset : counted (offset + 10 * suc (length rest))
+            let same_offset : counted (offset + 10 * suc (length rest))
             ≡ counted (counted (offset + 10) + 10 * length rest) = omega arith in
             let same_left : suc (length rest) + left ≡ suc (length rest + left) = omega arith in
-            rw (same_at, same-fields, same-offset, same_left, hearing.one_heard heard rest old)
+            rw (same_at, same_fields, same_offset, same_left, hearing.one_heard heard rest old)
             (shorter next new (counted (fields + 1)) (counted (offset + 10))
             (hearing.wants_on line fuel old heard wants (is_data_word line value _))
             (λ _. record { few = omega arith; near = omega arith })
@@ -158,9 +158,9 @@ module _ {Run Machine : Type 0} {course : Course Run} {run : Machine → ℕ →
         record {
           fewer = rw same (omega arith);
           some_left = λ _. rw same (omega (arith, few, tells.able.many));
-          leads = λ last put out is-room.
+          leads = λ last put out is_room.
               rw (same, is_new)
-              (words_are_turns last put out (rw is-room at tells.able.enough)
+              (words_are_turns last put out (rw is_room at tells.able.enough)
               (row.end - row.cell) (most - length found) at old fields offset wants
               (λ none. absurd (some (as_many ∙ none)))
               ∙ ap (λ (any : ℕ). turns course any window last

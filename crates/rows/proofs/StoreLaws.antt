@@ -62,13 +62,13 @@ module _ (bytes : List ℕ) (line : Bool) (block : Block) (end : ℕ) where
         let none : end - cell ≡ 0 = omega (arith, all) in
         sym (behind_none block end cell at ram) ∙ (rw none at so_far.leads)
 
-    module _ (marks : ℕ) (found : Found) (is-marks : marks ≡ marks_on line) (more : cell < end)
+    module _ (marks : ℕ) (found : Found) (is_marks : marks ≡ marks_on line) (more : cell < end)
         (is_found : found ≡ word_found bytes at marks) where
       fewer : end - cell ≡ suc (end - (cell + 1))
       fewer = omega (arith, more)
 
       at_marks : word_found bytes at (marks_on line) ≡ found
-      at_marks = sym (rw is-marks at is_found)
+      at_marks = sym (rw is_marks at is_found)
 
       pub row_goes_on : (value next : ℕ) (ram' : List ℕ) → found ≡ Value value next
           → ram' ≡ with_cell ram block (the_cell cell) value → length ram' ≡ length ram

@@ -45,12 +45,12 @@ able_tells row setup room most is =
     let enough = leb line_room room in
     let many = ltb row.end most in
     let more = ltb row.cell row.end in
-    let to-many = first_of_both (setup && enough && many) more is in
-    let to-enough = first_of_both (setup && enough) many to-many in
+    let to_many = first_of_both (setup && enough && many) more is in
+    let to_enough = first_of_both (setup && enough) many to_many in
     record {
-      after_setup = first_of_both setup enough to-enough;
-      enough = leb-true line_room room (second_of_both setup enough to-enough);
-      many = ltb-true row.end most (second_of_both (setup && enough) many to-many);
+      after_setup = first_of_both setup enough to_enough;
+      enough = leb-true line_room room (second_of_both setup enough to_enough);
+      many = ltb-true row.end most (second_of_both (setup && enough) many to_many);
       more = ltb-true row.cell row.end (second_of_both (setup && enough && many) more is);
     }
 
@@ -92,8 +92,8 @@ module _ (window : List ℕ) (line setup : Bool) (room most at : ℕ) (row : Row
         }) ram'
         ≡ row_taken window at line setup room most row ram
     unfolding row_taken
-    words_taken_lem words left is-words is_left =
-        let as_many : words ≡ length found = omega (arith, is-words, longer) in
+    words_taken_lem words left is_words is_left =
+        let as_many : words ≡ length found = omega (arith, is_words, longer) in
         rw (not-false (may_take row setup room most) able, is_left, as_many)
         (ap (λ (new : Stored). taken_as (length found) most new) is_stored)
 

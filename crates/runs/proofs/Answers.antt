@@ -35,11 +35,11 @@ use Rattle.tray_laws.specs.Answered.{
 use Rattle.runs.proofs.Telling.{runs}
 
 -- station 5, table block 1, no flags; then a queue read
-abbrev setup-bytes : List ℕ
-setup-bytes = 0x01 ∷ 0x00 ∷ 0x03 ∷ 0x05 ∷ 0x01 ∷ 0x00 ∷ []
+abbrev setup_bytes : List ℕ
+setup_bytes = 0x01 ∷ 0x00 ∷ 0x03 ∷ 0x05 ∷ 0x01 ∷ 0x00 ∷ []
 
-abbrev read-bytes : List ℕ
-read-bytes = 0x04 ∷ 0x00 ∷ 0x00 ∷ []
+abbrev read_bytes : List ℕ
+read_bytes = 0x04 ∷ 0x00 ∷ 0x00 ∷ []
 
 -- to unfold `answers` is to unfold a tray run, and what an answer says of it
 unfoldable answers : ℕ
@@ -49,11 +49,11 @@ unfolding runs read_at tag_of length_fits field_at valued_at field_of happening_
 answers = 0
 
 -- it prints the line of the queue read, and END 2
-accepted-answer : Answered tray_at_start (setup-bytes ++ read-bytes)
+accepted_answer : Answered tray_at_start (setup_bytes ++ read_bytes)
 unfolding answers
-accepted-answer =
+accepted_answer =
     record {
-      front = setup-bytes ++ read-bytes;
+      front = setup_bytes ++ read_bytes;
       left = [];
       fields = setup 5 1 0 ∷ read_queue ∷ [];
       line = end_line 2;
@@ -64,12 +64,12 @@ accepted-answer =
     }
 
 -- a second setup is refused by 9, at offset 6; what the first field did stands
-unfoldable refused-answer : Answered tray_at_start (setup-bytes ++ setup-bytes)
+unfoldable refused_answer : Answered tray_at_start (setup_bytes ++ setup_bytes)
 unfolding answers
-refused-answer =
+refused_answer =
     record {
-      front = setup-bytes;
-      left = setup-bytes;
+      front = setup_bytes;
+      left = setup_bytes;
       fields = setup 5 1 0 ∷ [];
       line = refusal_line 9 6;
       parts = refl;
@@ -81,11 +81,11 @@ refused-answer =
 -- ---- what is false of the last line
 
 -- that it is always END
-not-always-the-end : ((start : Tray) (bytes : List ℕ) (answer : Answered start bytes)
+not_always_the_end : ((start : Tray) (bytes : List ℕ) (answer : Answered start bytes)
     → answer.line ≡ end_line (whole_from start bytes).run.fields) → ⊥
-unfolding refused-answer answers end_line refusal_line
-not-always-the-end always =
+unfolding refused_answer answers end_line refusal_line
+not_always_the_end always =
     let same : refusal_line 9 6 ≡ end_line 1 =
-    always tray_at_start (setup-bytes ++ setup-bytes) refused-answer in
+    always tray_at_start (setup_bytes ++ setup_bytes) refused_answer in
     let first : ◌≡◌ {A = ℕ} 33 69 = ap (λ (line : List ℕ). get_or line 0 0) same in
     omega (arith, first)

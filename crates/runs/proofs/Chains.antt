@@ -114,7 +114,7 @@ by_table_cell_3 : (old : Card) → (step (word again) old).opened ≡ afresh
 unfolding runs
 by_table_cell_3 old opens same_table taken =
     record {
-      opens = λ opens-none. clash (cc);
+      opens = λ opens_none. clash (cc);
       has_block = refl;
       same_cell = refl;
       same_table = same_table;

@@ -43,7 +43,7 @@ Keeps Asked =
 -- whether or not the block is the table
 record AnyBlock (old : Card) (message : OpenMessage) (event : Event) (cell : Cell) : Type 0 where
   closes : Closes old message event
-  data_cell_lem : cell.0 < data_cells
+  data_cell : cell.0 < data_cells
 
 -- block 1 takes the words: its link goes into its own cell 3
 a_block_that_is_the_table_would_differ : Keeps AnyBlock → ⊥
@@ -52,13 +52,13 @@ a_block_that_is_the_table_would_differ claim =
     let differs : ◌≡◌ {A = ℕ} 0x4003 0x4001 =
     claim (small 256 (put 1 3 0x4001 ∷ put 1 63 0x4003 ∷ receive ∷ word1 ∷ word2 ∷ []))
     (received_in 1 false 2) quiet (the_cell 3) refl
-    (record { closes = by_sound_end refl; data_cell_lem = omega arith }) in
+    (record { closes = by_sound_end refl; data_cell = omega arith }) in
     omega arith
 
 -- whether or not the event closes the message
 record AnyEvent (old : Card) (message : OpenMessage) (event : Event) (cell : Cell) : Type 0 where
   elsewhere : TableElsewhere (asks message) message
-  data_cell_lem : cell.0 < data_cells
+  data_cell : cell.0 < data_cells
 
 -- the second word is stored
 an_event_that_does_not_close_would_differ : Keeps AnyEvent → ⊥
@@ -66,7 +66,7 @@ unfolding runs small
 an_event_that_does_not_close_would_differ claim =
     let differs : ◌≡◌ {A = ℕ} 0x2222 0 =
     claim begun (received false 1) word2 (the_cell 1) refl
-    (record { elsewhere = in_block_2 1; data_cell_lem = omega arith }) in
+    (record { elsewhere = in_block_2 1; data_cell = omega arith }) in
     omega arith
 
 -- whatever cell of the block

@@ -69,7 +69,7 @@ module _ {Run : Type 0} (course : Course Run) where
         → length window' ≡ length window → length made.out ≡ length out
         → Pumping course start made.run next window' made.out (left - 1)
     pumping_on short old pump window out left made so_far is_made next window' some taken settled
-        same-window same_out =
+        same_window same_out =
         let called = settled.called in
         let step : Stepped course old window pump.have pump.ended made.run
         settled.kept called made.stop =
@@ -87,7 +87,7 @@ module _ {Run : Type 0} (course : Course Run) where
                 inside =
                     after_call_inside called next settled.kept made.stop window'
                     step.inside settled.behind;
-                window_size = same-window ∙ so_far.buffers.window_size;
+                window_size = same_window ∙ so_far.buffers.window_size;
                 out_size = same_out ∙ so_far.buffers.out_size;
               };
         }

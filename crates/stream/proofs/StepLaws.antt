@@ -38,12 +38,12 @@ rest_kept window at have window' left inside is =
     let whole : put left window' ≡ put (have - at) (sets window 0 rest) =
     rw (le-leb have (length window) inside) at is in
     let is_left : left ≡ have - at = ap (λ (kept : Put). kept.next) whole in
-    let is-window : window' ≡ sets window 0 rest = ap (λ (kept : Put). kept.bytes) whole in
+    let is_window : window' ≡ sets window 0 rest = ap (λ (kept : Put). kept.bytes) whole in
     let as_long : length window' ≡ length window =
-    ap length is-window ∙ length-sets window 0 rest in
+    ap length is_window ∙ length-sets window 0 rest in
     record {
       bytes =
-          rw (is_left, is-window, sets-eq rest window 0 (omega (arith, long)))
+          rw (is_left, is_window, sets-eq rest window 0 (omega (arith, long)))
           (take_at rest (drop (0 + length rest) window) (have - at) long);
       is_left = is_left;
       inside = omega (arith, is_left, inside, as_long);

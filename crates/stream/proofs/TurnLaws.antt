@@ -97,8 +97,8 @@ module _ {Run : Type 0} (course : Course Run) {start old new : Run} {turns : ℕ
       → next.run ≡ (after_call course far step.out).run → next.window ≡ left
       → Reached course start (suc turns) next.ended new left
   unfolding far
-  reached next progressed is-run is_left =
-      rw (step.is_new ∙ sym is-run, ← is_left)
+  reached next progressed is_run is_left =
+      rw (step.is_new ∙ sym is_run, ← is_left)
       (record { input = next.input; text = next.text; progressed = progressed })
 
   -- it took a field, and leaves nothing to do

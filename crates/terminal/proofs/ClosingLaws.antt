@@ -63,19 +63,19 @@ module _ (asked : Asked) (state time : ℕ) (message : OpenMessage) (ram : List 
   ram_without_block none = rw (not-true asked.block none)
 
   module _ (ticks : ℕ) (served : List ℕ)
-      (has : not asked.block ≡ false) (is-ticks : ticks ≡ ticks_of message.opened time)
-      (is-served : served ≡ with_service ram message.block state time ticks) where
+      (has : not asked.block ≡ false) (is_ticks : ticks ≡ ticks_of message.opened time)
+      (is_served : served ≡ with_service ram message.block state time ticks) where
     pub ram_after_a_move : message.moved ≡ true → served ≡ closed_ram asked state time message ram
     unfolding closed_ram
     ram_after_a_move moved =
-        rw (not-false asked.block has, moved, ← is-ticks) is-served
+        rw (not-false asked.block has, moved, ← is_ticks) is_served
 
     pub ram_with_link : (new : List ℕ) → message.moved ≡ false
         → new ≡ with_link served message.block message.table asked.cell
         → new ≡ closed_ram asked state time message ram
     unfolding closed_ram
     ram_with_link new stays is_new =
-        rw (not-false asked.block has, stays, ← is-ticks, ← is-served) is_new
+        rw (not-false asked.block has, stays, ← is_ticks, ← is_served) is_new
 
 pub ruleset rams = (ram_without_block, ram_after_a_move, ram_with_link)
 
@@ -86,30 +86,30 @@ pub replies_when : (core : Core) (message : OpenMessage) (broadcast shut : Bool)
     → shut ≡ cond message.line core.shut.b core.shut.a
     → (not broadcast && not shut) ≡ replies core message
 unfolding replies
-replies_when core message broadcast shut is_broadcast_lem is-shut = rw (is_broadcast_lem, is-shut)
+replies_when core message broadcast shut is_broadcast_lem is_shut = rw (is_broadcast_lem, is_shut)
 
 module _ (asked : Asked) (core : Core) (message : OpenMessage) (given : Bool)
-    (is-given : given ≡ replies core message) where
+    (is_given : given ≡ replies core message) where
   pub reply_silent : not given ≡ true → Silent ≡ reply_of asked core message
   unfolding reply_of
-  reply_silent none = rw (← is-given, none)
+  reply_silent none = rw (← is_given, none)
 
   module _ (some : not given ≡ false) where
     pub reply_last : asked.last ≡ true
         → Last core.status core.last ≡ reply_of asked core message
     unfolding reply_of
-    reply_last last = rw (← is-given, some, last)
+    reply_last last = rw (← is_given, some, last)
 
     module _ (other : asked.last ≡ false) (sends : ℕ)
-        (is-sends : sends ≡ unless_busy asked message asked.sends) where
+        (is_sends : sends ≡ unless_busy asked message asked.sends) where
       pub reply_status : sends ≡ 0 → Status core.status ≡ reply_of asked core message
       unfolding reply_of
-      reply_status none = rw (← is-given, some, other, ← is-sends, eq-eqb sends 0 none)
+      reply_status none = rw (← is_given, some, other, ← is_sends, eq-eqb sends 0 none)
 
       pub reply_words_lem : (sends ≡ 0 → ⊥)
           → Words core.status message.block asked.sends ≡ reply_of asked core message
       unfolding reply_of
-      reply_words_lem many = rw (← is-given, some, other, ← is-sends, ne_eqb sends 0 many)
+      reply_words_lem many = rw (← is_given, some, other, ← is_sends, ne_eqb sends 0 many)
 
 pub ruleset replying = (reply_silent, reply_last, reply_status, reply_words_lem)
 
@@ -122,8 +122,8 @@ pub end_words_are : (asked : Asked) (core : Core) (message : OpenMessage) (given
     → words ≡ unless_busy asked message moved
     → words ≡ end_words asked core message
 unfolding end_words
-end_words_are asked core message given moved words is-given is-moved is-words =
-    rw (← is-given, ← is-moved) is-words
+end_words_are asked core message given moved words is_given is_moved is_words =
+    rw (← is_given, ← is_moved) is_words
 
 -- ---- shut lines and inhibit
 
@@ -135,21 +135,21 @@ pub shut_is : (code : ℕ) (line : Bool) (shut : Shut) (a b : Bool)
     (cond (eqb code 4 && not line) true shut.b)
     → record { a = a; b = b } ≡ switched_shut code line shut
 unfolding switched_shut
-shut_is code line shut a b is-a is_b = rw (is-a, is_b)
+shut_is code line shut a b is_a is_b = rw (is_a, is_b)
 
 pub switch_is : (code : ℕ) (line : Bool) (core : Core) (shut : Shut) (inhibit : Bool)
     → shut ≡ switched_shut code line core.shut
     → inhibit ≡ switched_inhibit code core.inhibit
     → with_switches shut inhibit core ≡ switched code line core
-switch_is code line core shut inhibit is-shut is-inhibit = rw (is-shut, is-inhibit)
+switch_is code line core shut inhibit is_shut is_inhibit = rw (is_shut, is_inhibit)
 
 -- ---- a fault, and the sound end
 
 module _ (asked : Asked) (time : ℕ) (message : OpenMessage) (old core idle : Core)
     (queue joined : Queue) (ram left : List ℕ) (words state : ℕ)
     (is_left : left ≡ closed_ram asked state time message ram)
-    (is-joined : joined ≡ closed_queue asked message queue)
-    (is-idle : idle ≡ with_message Idle core) where
+    (is_joined : joined ≡ closed_queue asked message queue)
+    (is_idle_lem : idle ≡ with_message Idle core) where
   pub fault_is : (code marked : ℕ)
       → words ≡ unless_busy asked message message.taken
       → state ≡ state_of code words message
@@ -157,8 +157,8 @@ module _ (asked : Asked) (time : ℕ) (message : OpenMessage) (old core idle : C
       → core ≡ with_status marked old
       → card idle joined left ≡ faulted asked code time message (card old queue ram)
   unfolding faulted closing
-  fault_is code marked is-words is_state is-marked is-core =
-      rw (is-idle, is-core, is-marked, is-joined, is_left, is_state, is-words)
+  fault_is code marked is_words is_state is_marked is_core =
+      rw (is_idle_lem, is_core, is_marked, is_joined, is_left, is_state, is_words)
 
   pub end_is :
       words ≡ end_words asked old message
@@ -166,5 +166,5 @@ module _ (asked : Asked) (time : ℕ) (message : OpenMessage) (old core idle : C
       → core ≡ switched asked.switch message.line old
       → card idle joined left ≡ ended asked time message (card old queue ram)
   unfolding ended closing
-  end_is is-words is_state is-core =
-      rw (is-idle, is-core, is-joined, is_left, is_state, is-words)
+  end_is is_words is_state is_core =
+      rw (is_idle_lem, is_core, is_joined, is_left, is_state, is_words)

@@ -9,4 +9,4 @@ use Rattle.terminal.specs.State.{with_table, with_message}
 pub table_moved : (old core : Core) (message : Message) (table : Block)
     → message ≡ moved_message old.message → core ≡ with_message message old
     → with_table table core ≡ with_table table (with_message (moved_message old.message) old)
-table_moved old core message table is-message is-core = rw (is-core, is-message)
+table_moved old core message table is_message is_core = rw (is_core, is_message)

@@ -3,62 +3,62 @@
 use Rattle.rules.proofs.Determined.{Determined, DeterminedAs, same}
 use Rattle.terminal.specs.State.{Card, card_of}
 use Rattle.terminal.specs.Event.{replied, Shown, shown}
-use Rattle.terminal.proofs.state.Core.at_setup.Kinds as core-setup-kinds
-use Rattle.terminal.proofs.state.Core.at_setup.Reads as core-setup-reads
-use Rattle.terminal.proofs.state.Core.move_table.Kinds as core-table-kinds
-use Rattle.terminal.proofs.state.Core.move_table.Reads as core-table-reads
-use Rattle.terminal.proofs.state.Core.set_flags.Kinds as core-flags-kinds
-use Rattle.terminal.proofs.state.Core.set_flags.Reads as core-flags-reads
-use Rattle.terminal.proofs.state.Core.open.Kinds as core-open-kinds
-use Rattle.terminal.proofs.state.Core.open.Reads as core-open-reads
-use Rattle.terminal.proofs.state.Core.reply.Kinds as core-reply-kinds
-use Rattle.terminal.proofs.state.Core.reply.Reads as core-reply-reads
-use Rattle.terminal.proofs.state.Core.close_by_fault.Kinds as close-by-fault-kinds
-use Rattle.terminal.proofs.state.Core.close_by_fault.Reads as close-by-fault-reads
-use Rattle.terminal.proofs.state.Core.close_at_end.Kinds as close-at-end-kinds
-use Rattle.terminal.proofs.state.Core.close_at_end.Reads as close-at-end-reads
-use Rattle.terminal.proofs.state.Core.after_row.Kinds as after-row-kinds
-use Rattle.terminal.proofs.state.Core.after_row.Reads as after-row-reads
-use Rattle.terminal.proofs.state.Core.word.Kinds as core-word-kinds
-use Rattle.terminal.proofs.state.Core.word.Reads as core-word-reads
-use Rattle.terminal.proofs.state.Core.silence.Kinds as core-silence-kinds
-use Rattle.terminal.proofs.state.Core.silence.Reads as core-silence-reads
+use Rattle.terminal.proofs.state.Core.at_setup.Kinds as core_setup_kinds
+use Rattle.terminal.proofs.state.Core.at_setup.Reads as core_setup_reads
+use Rattle.terminal.proofs.state.Core.move_table.Kinds as core_table_kinds
+use Rattle.terminal.proofs.state.Core.move_table.Reads as core_table_reads
+use Rattle.terminal.proofs.state.Core.set_flags.Kinds as core_flags_kinds
+use Rattle.terminal.proofs.state.Core.set_flags.Reads as core_flags_reads
+use Rattle.terminal.proofs.state.Core.open.Kinds as core_open_kinds
+use Rattle.terminal.proofs.state.Core.open.Reads as core_open_reads
+use Rattle.terminal.proofs.state.Core.reply.Kinds as core_reply_kinds
+use Rattle.terminal.proofs.state.Core.reply.Reads as core_reply_reads
+use Rattle.terminal.proofs.state.Core.close_by_fault.Kinds as close_by_fault_kinds
+use Rattle.terminal.proofs.state.Core.close_by_fault.Reads as close_by_fault_reads
+use Rattle.terminal.proofs.state.Core.close_at_end.Kinds as close_at_end_kinds
+use Rattle.terminal.proofs.state.Core.close_at_end.Reads as close_at_end_reads
+use Rattle.terminal.proofs.state.Core.after_row.Kinds as after_row_kinds
+use Rattle.terminal.proofs.state.Core.after_row.Reads as after_row_reads
+use Rattle.terminal.proofs.state.Core.word.Kinds as core_word_kinds
+use Rattle.terminal.proofs.state.Core.word.Reads as core_word_reads
+use Rattle.terminal.proofs.state.Core.silence.Kinds as core_silence_kinds
+use Rattle.terminal.proofs.state.Core.silence.Reads as core_silence_reads
 
-pub core_setup : Determined 0 core-setup-kinds.ps core-setup-kinds.r core-setup-reads.Post
+pub core_setup : Determined 0 core_setup_kinds.ps core_setup_kinds.r core_setup_reads.Post
 core_setup κs arguments result result' exit exit' = same
 
-pub core_table : Determined 0 core-table-kinds.ps core-table-kinds.r core-table-reads.Post
+pub core_table : Determined 0 core_table_kinds.ps core_table_kinds.r core_table_reads.Post
 core_table κs arguments result result' exit exit' = same
 
-pub core_flags : Determined 0 core-flags-kinds.ps core-flags-kinds.r core-flags-reads.Post
+pub core_flags : Determined 0 core_flags_kinds.ps core_flags_kinds.r core_flags_reads.Post
 core_flags κs arguments result result' exit exit' = same
 
-pub core_open : Determined 1 core-open-kinds.ps core-open-kinds.r core-open-reads.Post
+pub core_open : Determined 1 core_open_kinds.ps core_open_kinds.r core_open_reads.Post
 core_open κs arguments result result' exit exit' = same
 
-pub core_reply : Determined 0 core-reply-kinds.ps core-reply-kinds.r core-reply-reads.Post
+pub core_reply : Determined 0 core_reply_kinds.ps core_reply_kinds.r core_reply_reads.Post
 core_reply κs arguments result result' exit exit' = same
 
 pub close_by_fault :
-    DeterminedAs 2 close-by-fault-kinds.ps close-by-fault-kinds.r close-by-fault-reads.Post Card
+    DeterminedAs 2 close_by_fault_kinds.ps close_by_fault_kinds.r close_by_fault_reads.Post Card
     (λ κs result exit. card_of result exit.1.1.1.0.now exit.1.1.1.1.0.now)
 close_by_fault κs arguments result result' exit exit' = same
 
 pub close_at_end :
-    DeterminedAs 2 close-at-end-kinds.ps close-at-end-kinds.r close-at-end-reads.Post Card
+    DeterminedAs 2 close_at_end_kinds.ps close_at_end_kinds.r close_at_end_reads.Post Card
     (λ κs result exit. card_of result exit.1.1.0.now exit.1.1.1.0.now)
 close_at_end κs arguments result result' exit exit' = same
 
-pub after_row : Determined 0 after-row-kinds.ps after-row-kinds.r after-row-reads.Post
+pub after_row : Determined 0 after_row_kinds.ps after_row_kinds.r after_row_reads.Post
 after_row κs arguments result result' exit exit' = same
 
 pub core_word :
-    DeterminedAs 2 core-word-kinds.ps core-word-kinds.r core-word-reads.Post Card
+    DeterminedAs 2 core_word_kinds.ps core_word_kinds.r core_word_reads.Post Card
     (λ κs result exit. card_of result exit.1.1.0.now exit.1.1.1.0.now)
 core_word κs arguments result result' exit exit' = same
 
 pub core_silence :
-    DeterminedAs 2 core-silence-kinds.ps core-silence-kinds.r core-silence-reads.Post Shown
+    DeterminedAs 2 core_silence_kinds.ps core_silence_kinds.r core_silence_reads.Post Shown
     (λ κs result exit. shown
     (card_of result.held exit.1.1.0.now exit.1.1.1.0.now)
     (replied result.reply))

@@ -56,8 +56,8 @@ module _ (asked : Asked) (table_word : ℕ) (word : Word) (core : Core) where
         stage = stage;
       } ≡ opened_message asked table_word word core
   unfolding opened_message
-  message_is block busy wanted stage is_Block is_busy_lem is-wanted is-stage =
-      rw (is_Block, is_busy_lem, is-wanted, is-stage)
+  message_is block busy wanted stage is_Block is_busy_lem is_wanted is_stage =
+      rw (is_Block, is_busy_lem, is_wanted, is_stage)
 
 -- ---- the status
 
@@ -75,8 +75,8 @@ module _ (asked : Asked) (table_word : ℕ) (word : Word) (core : Core) where
       → made ≡ status_word status
       → made ≡ opened_status asked table_word word core
   unfolding opened_status
-  status_made busy status made anew is_busy_lem is-status is_made =
-      rw (not-false asked.fresh anew, ← is_busy_lem, ← is-status) is_made
+  status_made busy status made anew is_busy_lem is_status is_made =
+      rw (not-false asked.fresh anew, ← is_busy_lem, ← is_status) is_made
 
 pub ruleset statuses = (status_kept, status_made)
 
@@ -98,8 +98,8 @@ module _ (asked : Asked) (table_word : ℕ) (word : Word) (core : Core) where
         message = Open message;
       } ≡ opened_core (opened_message asked table_word word core) asked table_word word core
   unfolding opened_core with_message with_last with_status
-  core_is message status last is-message is-status is_last =
-      rw (is-message, is-status, is_last)
+  core_is message status last is_message is_status is_last =
+      rw (is_message, is_status, is_last)
 
 module _ (word : Word) (core : Core) (ram : List ℕ) where
   pub opened_is : (asked : Asked) (table_word : ℕ) (new : Core)
@@ -107,5 +107,5 @@ module _ (word : Word) (core : Core) (ram : List ℕ) where
       → table_word ≡ cell_at ram core.table asked.cell
       → new ≡ opened_core (opened_message asked table_word word core) asked table_word word core
       → new ≡ opened_at word core ram
-  opened_is asked table_word new is-asked is-table-word is_new =
-      rw (← is-asked, ← is-table-word) is_new
+  opened_is asked table_word new is_asked is_table_word is_new =
+      rw (← is_asked, ← is_table_word) is_new

@@ -89,13 +89,13 @@ module _ (asked : Asked) (state time : ℕ) (message : OpenMessage) (ram : List 
       → cell_at (closed_ram asked state time message ram) message.block cell
       ≡ cell_at ram message.block cell
   unfolding cell_at
-  closed_data_cell in-table-block elsewhere cell low =
+  closed_data_cell in_table_block elsewhere cell low =
       closed_writes.same_else (word_address message.block cell) kept
     where
       kept : InClosing asked message (word_address message.block cell) → ⊥
       kept (in_service from to is) = omega arith
       kept (in_table has stays is) =
-          addresses_apart in-table-block (omega arith) (elsewhere has stays) is
+          addresses_apart in_table_block (omega arith) (elsewhere has stays) is
 
 -- an event that closes the message leaves the data cells of its block
 pub closing_keeps_data : (old : Card) (message : OpenMessage) (event : Event)

@@ -16,7 +16,7 @@ use Rattle.message.specs.declared.judge.WordAct.TheVariants.{
   Drop,
 }
 use Rattle.message.specs.declared.judge.SilenceAct.{SilenceAct}
-use Rattle.message.specs.declared.judge.SilenceAct.TheVariants as silence-acts
+use Rattle.message.specs.declared.judge.SilenceAct.TheVariants as silence_acts
 use Rattle.message.specs.declared.state.Stage.{Stage}
 use Rattle.message.specs.declared.state.Second.{Second}
 use Rattle.message.specs.declared.state.OpenMessage.{OpenMessage}
@@ -118,12 +118,12 @@ module _ (old : Card) (message : OpenMessage) (is_open : old.core.message ≡ Op
   by_a_silence : (act : SilenceAct) (line : Bool) (time : ℕ) → silence_judged message line ≡ act
       → Becomes old message (silence line time)
   unfolding silence_done with_message
-  by_a_silence silence-acts.Ignore line time judged =
+  by_a_silence silence_acts.Ignore line time judged =
       stays (after_silence line time judged ∙ is_open) (same_opening message)
-  by_a_silence silence-acts.AwaitStatus line time judged =
+  by_a_silence silence_acts.AwaitStatus line time judged =
       stays (after_silence line time judged) (same_further _ _ _ message)
-  by_a_silence (silence-acts.Fault code) line time judged = closed (by_silence judged)
-  by_a_silence silence-acts.End line time judged = closed (by_sound_end judged)
+  by_a_silence (silence_acts.Fault code) line time judged = closed (by_silence judged)
+  by_a_silence silence_acts.End line time judged = closed (by_sound_end judged)
 
 -- the law
 pub message_becomes : (event : Event) (old : Card) (message : OpenMessage)

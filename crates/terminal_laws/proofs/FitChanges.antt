@@ -37,22 +37,22 @@ fit_with_message : (message : Message) (core : Core)
     → fit_message card_blocks message core.station ≡ true
     → fit_core card_blocks core ≡ true → fit_core card_blocks (with_message message core) ≡ true
 unfolding with_message
-fit_with_message message core fit-message fit =
+fit_with_message message core fit_message_lem fit =
     let parts = fit_core_parts core fit in
     fit_core_whole (record {
       station = parts.station;
       table = parts.table;
       flags = parts.flags;
-      message = fit-message;
+      message = fit_message_lem;
     })
 
 -- the open message goes on, whatever is in memory
 pub fit_going_on : (message : OpenMessage) (ram : List ℕ) (old : Card)
     → FitOpen old.core.station message → FitCard old
     → FitCard (card (with_message (Open message) old.core) old.queue ram)
-fit_going_on message ram old fit-message fit =
+fit_going_on message ram old fit_message_lem fit =
     record {
-      core = fit_with_message (Open message) old.core (fit_open_whole fit-message) fit.core;
+      core = fit_with_message (Open message) old.core (fit_open_whole fit_message_lem) fit.core;
       queue = fit.queue;
     }
 
@@ -60,14 +60,14 @@ fit_going_on message ram old fit-message fit =
 pub fit_opening : (word : Word) (old : Card)
     → addressed old.core.station word.value ≡ true → FitCard old → FitCard (opening word old)
 unfolding opening opened_core with_message with_last with_status fit_core
-fit_opening word old to-us fit =
+fit_opening word old to_us fit =
     let core = old.core in
     let message = opened_as word core old.ram in
-    let fit-message : FitOpen core.station message =
-    opened_fits (table_word_at word core old.ram) word core to-us
+    let fit_message_lem : FitOpen core.station message =
+    opened_fits (table_word_at word core old.ram) word core to_us
     (fit_core_parts core fit.core).table in
     record {
-      core = fit_with_message (Open message) core (fit_open_whole fit-message) fit.core;
+      core = fit_with_message (Open message) core (fit_open_whole fit_message_lem) fit.core;
       queue = fit.queue;
     }
 

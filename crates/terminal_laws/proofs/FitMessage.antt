@@ -50,9 +50,9 @@ pub opened_fits : (table_word : ℕ) (word : Word) (core : Core)
     → FitOpen core.station
     (opened_message (asked_of word.value) table_word word core)
 unfolding opened_message
-opened_fits table_word word core to-us table =
+opened_fits table_word word core to_us table =
     record {
-      address = to-us;
+      address = to_us;
       block = fit_block (asked_of word.value).block table_word;
       table = table;
       taken = omega arith;
@@ -69,13 +69,13 @@ module _ (station : ℕ) (message : OpenMessage) (fit : FitOpen station message)
       → fit_stage stage (asks message).illegal second taken ≡ true
       → FitOpen station (further stage second taken message)
   unfolding further
-  further_fits stage second taken few as-taken reached =
+  further_fits stage second taken few as_taken reached =
       record {
         address = fit.address;
         block = fit.block;
         table = fit.table;
         taken = few;
-        second = as-taken;
+        second = as_taken;
         stage = reached;
       }
 

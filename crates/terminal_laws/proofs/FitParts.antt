@@ -58,20 +58,20 @@ fit_open_parts station message fit =
     let second = fit_second message.second station command asked.receive in
     let stage =
     fit_stage message.stage asked.illegal message.second message.taken in
-    let to-second = first_of_both (address && block && table && taken && second) stage fit in
-    let to-taken = first_of_both (address && block && table && taken) second to-second in
-    let to-table = first_of_both (address && block && table) taken to-taken in
-    let to_block = first_of_both (address && block) table to-table in
+    let to_second = first_of_both (address && block && table && taken && second) stage fit in
+    let to_taken = first_of_both (address && block && table && taken) second to_second in
+    let to_table = first_of_both (address && block && table) taken to_taken in
+    let to_block = first_of_both (address && block) table to_table in
     record {
       address = first_of_both address block to_block;
       block = ltb-true message.block.0 card_blocks (second_of_both address block to_block);
       table =
           ltb-true message.table.0 card_blocks
-          (second_of_both (address && block) table to-table);
+          (second_of_both (address && block) table to_table);
       taken =
           leb-true message.taken asked.takes
-          (second_of_both (address && block && table) taken to-taken);
-      second = second_of_both (address && block && table && taken) second to-second;
+          (second_of_both (address && block && table) taken to_taken);
+      second = second_of_both (address && block && table && taken) second to_second;
       stage = second_of_both (address && block && table && taken && second) stage fit;
     }
 
@@ -105,12 +105,12 @@ fit_core_parts core fit =
     let table = is_block card_blocks core.table in
     let flags = are_flags core.flags in
     let message = fit_message card_blocks core.message core.station in
-    let to-flags = first_of_both (station && table && flags) message fit in
-    let to-table = first_of_both (station && table) flags to-flags in
+    let to_flags = first_of_both (station && table && flags) message fit in
+    let to_table = first_of_both (station && table) flags to_flags in
     record {
-      station = leb-true core.station last_station (first_of_both station table to-table);
-      table = ltb-true core.table.0 card_blocks (second_of_both station table to-table);
-      flags = leb-true core.flags all_flags (second_of_both (station && table) flags to-flags);
+      station = leb-true core.station last_station (first_of_both station table to_table);
+      table = ltb-true core.table.0 card_blocks (second_of_both station table to_table);
+      flags = leb-true core.flags all_flags (second_of_both (station && table) flags to_flags);
       message = second_of_both (station && table && flags) message fit;
     }
 

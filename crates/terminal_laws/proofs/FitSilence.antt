@@ -62,7 +62,7 @@ module _ (message : OpenMessage) (time : ℕ) (old : Card)
 pub fit_silence : (message : Message) (line : Bool) (time : ℕ) (old : Card)
     → fit_message card_blocks message old.core.station ≡ true → FitCard old
     → FitCard (silence_met message line time old).card
-fit_silence Idle line time old fit-message fit = fit
-fit_silence (Open message) line time old fit-message fit =
-    fit_silence_open message time old (fit_open_parts old.core.station message fit-message) fit
+fit_silence Idle line time old fit_message_lem fit = fit
+fit_silence (Open message) line time old fit_message_lem fit =
+    fit_silence_open message time old (fit_open_parts old.core.station message fit_message_lem) fit
     line

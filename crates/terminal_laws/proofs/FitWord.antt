@@ -174,8 +174,8 @@ module _ (station : ℕ) (message : OpenMessage) (word : Word) (fit : FitOpen st
   word_fits flags =
       let in_stage = stage_fits message.stage fit.stage in
       let own = first_of_both (own_command station flags word) in
-      let own-fits = own_is_addressed station flags word in
-      search (acts, supersedes, own, own-fits) depth 12
+      let own_fits = own_is_addressed station flags word in
+      search (acts, supersedes, own, own_fits) depth 12
 
 -- ---- what is decided is done
 
@@ -196,11 +196,11 @@ fit_word_done message TakeStatus word old parts fit (takes_status next) =
     fit_going_on _ _ old next fit
 fit_word_done message (Fault code) word old parts fit faults =
     fit_faulted (asks message) code word.time message old parts.block fit
-fit_word_done message Supersede word old parts fit (supersedes to-us) =
+fit_word_done message Supersede word old parts fit (supersedes to_us) =
     let asked = asks message in
-    fit_opening word (faulted asked 7 word.time message old) to-us
+    fit_opening word (faulted asked 7 word.time message old) to_us
     (fit_faulted asked 7 word.time message old parts.block fit)
-fit_word_done message Drop word old parts fit (drops to-us) = fit_opening word old to-us fit
+fit_word_done message Drop word old parts fit (drops to_us) = fit_opening word old to_us fit
 
 -- with nothing open, an own command opens
 fit_word_idle : (own : Bool) (word : Word) (old : Card)
@@ -214,9 +214,9 @@ fit_word_idle false word old own fit = fit
 pub fit_word : (message : Message) (word : Word) (old : Card)
     → fit_message card_blocks message old.core.station ≡ true → FitCard old
     → FitCard (word_met message word old).card
-fit_word Idle word old fit-message fit =
+fit_word Idle word old fit_message_lem fit =
     fit_word_idle (own_command old.core.station old.core.flags word) word old refl fit
-fit_word (Open message) word old fit-message fit =
-    let parts = fit_open_parts old.core.station message fit-message in
+fit_word (Open message) word old fit_message_lem fit =
+    let parts = fit_open_parts old.core.station message fit_message_lem in
     fit_word_done message _ word old parts fit
     (word_fits old.core.station message word parts old.core.flags)

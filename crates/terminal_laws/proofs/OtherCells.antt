@@ -20,7 +20,7 @@ use Rattle.terminal_laws.specs.Closes.{OpenWithBlock, Closes}
 use Rattle.terminal_laws.specs.Written.{
   table_address,
   MayWrite,
-  data_cell_lem,
+  data_cell,
   service_cell,
   table_cell,
   host_cell,
@@ -50,7 +50,7 @@ action_may_write_nothing old action (service_cell with_block closes from to is) 
     action_closes_nothing old action closes
 action_may_write_nothing old action (table_cell with_block closes stays is) =
     action_closes_nothing old action closes
-action_may_write_nothing old action (data_cell_lem with_block stores is) = elim action [ ]
+action_may_write_nothing old action (data_cell with_block stores is) = elim action [ ]
 action_may_write_nothing old action (host_cell from below) = elim action [ ]
 
 not_idle : {message : OpenMessage} (old : Card) → old.core.message ≡ Idle
@@ -61,7 +61,7 @@ not_idle old idle with_block =
 -- words and silences where nothing is open
 pub idle_may_write_nothing : {event : Event} {address : ℕ} (old : Card)
     → old.core.message ≡ Idle → OnBus event → MayWrite old event address → ⊥
-idle_may_write_nothing old idle a_word (data_cell_lem with_block stores is) =
+idle_may_write_nothing old idle a_word (data_cell with_block stores is) =
     not_idle old idle with_block
 idle_may_write_nothing old idle a_word (service_cell with_block closes from to is) =
     not_idle old idle with_block
@@ -87,14 +87,14 @@ module _ (old : Card) (message : OpenMessage) (is_open : old.core.message ≡ Op
   same_place : {other : OpenMessage} {address : ℕ} → OpenWithBlock old other
       → Place other address → Place message address
   same_place {other} {address} with_block place =
-      let is-open' = with_block.is_open in
+      let is_open' = with_block.is_open in
       let same : other ≡ message = cc in
       subst (λ (there : OpenMessage). Place there address) same place
 
   place_of : {event : Event} {address : ℕ} → OnBus event → MayWrite old event address
       → Place message address
-  place_of a_word (data_cell_lem with_block stores is) =
-      same_place with_block (in_data_lem stores.data_cell_lem is)
+  place_of a_word (data_cell with_block stores is) =
+      same_place with_block (in_data_lem stores.data_cell is)
   place_of a_word (service_cell with_block closes from to is) =
       same_place with_block (in_service from to is)
   place_of a_word (table_cell with_block closes stays is) =
@@ -108,9 +108,9 @@ module _ (old : Card) (message : OpenMessage) (is_open : old.core.message ≡ Op
       → (Place message (word_address block cell) → ⊥)
       → cell_at (step event old).card.ram block cell ≡ cell_at old.ram block cell
   unfolding cell_at
-  cell_kept {event} on-bus block cell no_place =
+  cell_kept {event} on_bus block cell no_place =
       (step_writes_only event old).same_else (word_address block cell)
-      (λ may. no_place (place_of on-bus may))
+      (λ may. no_place (place_of on_bus may))
 
 -- the terminal never writes other cells of a message's block, save the table cell
 pub other_cells_kept : {event : Event} (old : Card) (message : OpenMessage) (cell : Cell)
@@ -118,8 +118,8 @@ pub other_cells_kept : {event : Event} (old : Card) (message : OpenMessage) (cel
     → OtherCell cell → word_address message.block cell ≢ table_address message
     → cell_at (step event old).card.ram message.block cell
     ≡ cell_at old.ram message.block cell
-other_cells_kept old message cell is_open on-bus other no_table =
-    cell_kept old message is_open on-bus message.block cell go
+other_cells_kept old message cell is_open on_bus other no_table =
+    cell_kept old message is_open on_bus message.block cell go
   where
     go : Place message (word_address message.block cell) → ⊥
     go (in_data_lem low is) = omega (arith, other.no_data_cell)
@@ -132,8 +132,8 @@ pub cells_elsewhere_kept : {event : Event} (old : Card) (message : OpenMessage) 
     → old.core.message ≡ Open message → OnBus event
     → block ≢ message.block → cell.0 < block_cells → word_address block cell ≢ table_address message
     → cell_at (step event old).card.ram block cell ≡ cell_at old.ram block cell
-cells_elsewhere_kept old message block cell is_open on-bus elsewhere inside no_table =
-    cell_kept old message is_open on-bus block cell go
+cells_elsewhere_kept old message block cell is_open on_bus elsewhere inside no_table =
+    cell_kept old message is_open on_bus block cell go
   where
     go : Place message (word_address block cell) → ⊥
     go (in_data_lem low is) = elsewhere (same_block (omega arith))

@@ -34,7 +34,7 @@ use Rattle.terminal.specs.SilenceStep.{silence_done}
 use Rattle.terminal.specs.Machine.{step}
 use Rattle.terminal_laws.specs.Closes.{silence_judged}
 use Rattle.terminal_laws.specs.Written.{MayWrite, service_cell, table_cell}
-use Rattle.terminal_laws.proofs.OneBlock.Answers.{sent-at-most}
+use Rattle.terminal_laws.proofs.OneBlock.Answers.{sent_at_most}
 use Rattle.terminal_laws.proofs.StepFrame.{silence_step_lem, step_writes_only}
 
 -- ---- the part that is sent
@@ -58,7 +58,7 @@ data Sends (cell : Cell) : Answer → Type 0 where
 sends_some : (busy : Bool) (sends : ℕ) → eqb (cond busy 0 sends) 0 ≡ false → sends ≡ 0 → ⊥
 sends_some true sends some none = clash (cc)
 sends_some false sends some none =
-    let some-of-none : eqb 0 0 ≡ false = rw none at some in clash (cc)
+    let some_of_none : eqb 0 0 ≡ false = rw none at some in clash (cc)
 
 module _ (message : OpenMessage) (time : ℕ) (old : Card) where
   abbrev Given : Reply → Type 0
@@ -102,12 +102,12 @@ module _ (line : Bool) (time : ℕ) (old : Card) (status : ℕ) (block : Block) 
   sent_cell_unwritten : (cell : Cell) (address : ℕ) → cell.0 < count
       → address ≡ word_address block cell → MayWrite old (silence line time) address → ⊥
   sent_cell_unwritten cell address below at (service_cell with_block closes from to is) =
-      omega (arith, sent-at-most (silence line time) old status block count replied)
+      omega (arith, sent_at_most (silence line time) old status block count replied)
   sent_cell_unwritten cell address below at
       (table_cell {message = message} with_block closes stays is) =
       omega (
         arith,
-        sent-at-most (silence line time) old status block count replied,
+        sent_at_most (silence line time) old status block count replied,
         high_table_cell message with_block.is_open,
         cell_in_table message.command,
       )

@@ -76,7 +76,7 @@ record Stays (station : ℕ) (new : Card) : Type 0 where
 pub own_at_setup : (station : ℕ) (table : Block) (flags : ℕ)
     → station < 32 → OwnStatus (core_at_setup station table flags)
 unfolding core_at_setup
-own_at_setup station table flags five-bits = omega arith
+own_at_setup station table flags five_bits = omega arith
 
 -- ---- what a message does
 
@@ -84,10 +84,10 @@ own_at_setup station table flags five-bits = omega arith
 anew_or_kept : (fresh : Bool) (made : Status) (kept : ℕ) → made.station < 32
     → address_of kept ≡ made.station
     → address_of (cond fresh (status_word made) kept) ≡ made.station
-anew_or_kept true made kept five-bits own = status_address made five-bits
-anew_or_kept false made kept five-bits own = own
+anew_or_kept true made kept five_bits own = status_address made five_bits
+anew_or_kept false made kept five_bits own = own
 
-module _ (station : ℕ) (five-bits : station < 32) where
+module _ (station : ℕ) (five_bits : station < 32) where
   opened_stays : (heard : Word) (old : Card) → Stays station old → Stays station (opening heard old)
   unfolding opening opened_core opened_status caught_status with_message with_last with_status
   opened_stays heard old stays =
@@ -95,7 +95,7 @@ module _ (station : ℕ) (five-bits : station < 32) where
         same = stays.same;
         own =
             anew_or_kept (asked_of heard.value).fresh _ old.core.status
-            (omega (arith, stays.same, five-bits)) stays.own;
+            (omega (arith, stays.same, five_bits)) stays.own;
       }
 
   faulted_stays : (asked : Asked) (code time : ℕ) (message : OpenMessage) (old : Card)
@@ -189,11 +189,11 @@ module _ (station : ℕ) (five-bits : station < 32) where
 
 -- ---- the claims
 
-module _ (old : Card) (five-bits : old.core.station < 32) (own : OwnStatus old.core) where
+module _ (old : Card) (five_bits : old.core.station < 32) (own : OwnStatus old.core) where
   pub own_status_stays : (event : Event) → OwnStatus (step event old).card.core
   own_status_stays event =
-      (step_stays old.core.station five-bits event old (record { same = refl; own = own })).own
+      (step_stays old.core.station five_bits event old (record { same = refl; own = own })).own
 
   pub own_status_run : (events : List Event) → OwnStatus (run events old).core
   own_status_run events =
-      (run_stays old.core.station five-bits events old (record { same = refl; own = own })).own
+      (run_stays old.core.station five_bits events old (record { same = refl; own = own })).own

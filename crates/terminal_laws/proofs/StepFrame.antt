@@ -34,7 +34,7 @@ use Rattle.message.specs.declared.judge.WordAct.TheVariants.{
   Drop,
 }
 use Rattle.message.specs.declared.judge.SilenceAct.{SilenceAct}
-use Rattle.message.specs.declared.judge.SilenceAct.TheVariants as silence-acts
+use Rattle.message.specs.declared.judge.SilenceAct.TheVariants as silence_acts
 use Rattle.message.specs.declared.state.OpenMessage.{OpenMessage}
 use Rattle.message.specs.declared.state.Message.{Message}
 use Rattle.message.specs.declared.state.Message.TheVariants.{Idle, Open}
@@ -75,7 +75,7 @@ use Rattle.terminal_laws.specs.Closes.{
 }
 use Rattle.terminal_laws.specs.Written.{
   MayWrite,
-  data_cell_lem,
+  data_cell,
   service_cell,
   table_cell,
   host_cell,
@@ -149,12 +149,12 @@ module _ {Written : ℕ → Type 0} where
           (linked moved block message.table asked.cell
           (with_service ram block state time ticks))
           ram)
-      go false moved may may-link = nothing_written ram
-      go true true may may-link = written_by (service (may refl)) ram
-      go true false may may-link =
+      go false moved may may_link = nothing_written ram
+      go true true may may_link = written_by (service (may refl)) ram
+      go true false may may_link =
           written_by
           (keeps_then (service (may refl))
-          (keeps_to_more (may-link refl refl) (link_keeps block message.table asked.cell)))
+          (keeps_to_more (may_link refl refl) (link_keeps block message.table asked.cell)))
           ram
 
 -- ---- one event
@@ -177,7 +177,7 @@ module _ (old : Card) (message : OpenMessage) (is_open : old.core.message ≡ Op
       → (address : ℕ) → address ≡ word_address message.block (the_cell message.taken)
       → MayWrite old (word heard) address
   stored_writes heard next judged address is =
-      data_cell_lem (with_block (stores_with_block old message heard next judged))
+      data_cell (with_block (stores_with_block old message heard next judged))
       (stores_data old message heard next judged) is
 
   word_done_writes : (act : WordAct) (heard : Word) → word_judged old message heard ≡ act
@@ -202,11 +202,11 @@ module _ (old : Card) (message : OpenMessage) (is_open : old.core.message ≡ Op
       → WritesOnly (MayWrite old (silence line time)) old.ram
       (silence_done act (asks message) message time old).card.ram
   unfolding silence_done faulted ended closing
-  silence_done_writes silence-acts.Ignore line time judged = nothing_written old.ram
-  silence_done_writes silence-acts.AwaitStatus line time judged = nothing_written old.ram
-  silence_done_writes (silence-acts.Fault code) line time judged =
+  silence_done_writes silence_acts.Ignore line time judged = nothing_written old.ram
+  silence_done_writes silence_acts.AwaitStatus line time judged = nothing_written old.ram
+  silence_done_writes (silence_acts.Fault code) line time judged =
       closed_writes _ time (by_silence judged)
-  silence_done_writes silence-acts.End line time judged =
+  silence_done_writes silence_acts.End line time judged =
       closed_writes _ time (by_sound_end judged)
 
 -- with nothing open, a word writes nothing

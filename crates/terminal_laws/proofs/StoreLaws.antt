@@ -121,7 +121,7 @@ module _ (old : Card) (message : OpenMessage) (heard : Word) (next : ℕ)
       record {
         next = next;
         by_rule_8 = judged;
-        data_cell_lem =
+        data_cell =
             omega (
               arith,
               wanted.more,

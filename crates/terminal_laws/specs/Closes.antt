@@ -3,9 +3,9 @@
 use Rattle.std.specs.Prelude.{◌≡◌, Bool, true, ℕ}
 use Rattle.bus.specs.declared.word.Word.{Word}
 use Rattle.message.specs.declared.judge.WordAct.{WordAct}
-use Rattle.message.specs.declared.judge.WordAct.TheVariants as word-acts
+use Rattle.message.specs.declared.judge.WordAct.TheVariants as word_acts
 use Rattle.message.specs.declared.judge.SilenceAct.{SilenceAct}
-use Rattle.message.specs.declared.judge.SilenceAct.TheVariants as silence-acts
+use Rattle.message.specs.declared.judge.SilenceAct.TheVariants as silence_acts
 use Rattle.message.specs.declared.state.OpenMessage.{OpenMessage}
 use Rattle.message.specs.declared.state.Message.TheVariants.{Open}
 use Rattle.message.specs.Asked.{asks}
@@ -32,14 +32,14 @@ silence_judged message line = on_silence (asks message) message line
 -- sound end. A broadcast message that is dropped does not close
 pub data Closes (old : Card) (message : OpenMessage) : Event → Type 0 where
   by_fault : {heard : Word} {code : ℕ}
-      → word_judged old message heard ≡ word-acts.Fault code → Closes old message (word heard)
+      → word_judged old message heard ≡ word_acts.Fault code → Closes old message (word heard)
   by_superseding : {heard : Word}
-      → word_judged old message heard ≡ word-acts.Supersede → Closes old message (word heard)
+      → word_judged old message heard ≡ word_acts.Supersede → Closes old message (word heard)
   by_silence : {line : Bool} {time code : ℕ}
-      → silence_judged message line ≡ silence-acts.Fault code
+      → silence_judged message line ≡ silence_acts.Fault code
       → Closes old message (silence line time)
   by_sound_end : {line : Bool} {time : ℕ}
-      → silence_judged message line ≡ silence-acts.End → Closes old message (silence line time)
+      → silence_judged message line ≡ silence_acts.End → Closes old message (silence line time)
 
 -- what is fixed at the opening
 pub record SameOpening (message later : OpenMessage) : Type 0 where
@@ -55,7 +55,7 @@ pub record SameOpening (message later : OpenMessage) : Type 0 where
 pub data Becomes (old : Card) (message : OpenMessage) : Event → Type 0 where
   closed : {event : Event} → Closes old message event → Becomes old message event
   dropped : {heard : Word}
-      → word_judged old message heard ≡ word-acts.Drop → Becomes old message (word heard)
+      → word_judged old message heard ≡ word_acts.Drop → Becomes old message (word heard)
   stays : {event : Event} {later : OpenMessage}
       → (step event old).card.core.message ≡ Open later → SameOpening message later
       → Becomes old message event

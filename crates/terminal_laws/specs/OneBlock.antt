@@ -37,7 +37,7 @@ use Rattle.terminal.specs.Machine.{step, run}
 
 -- first exception: data and service cells of blocks that broken messages cost, the `Spent` ones
 pub record Kept (Spent : Block → Type 0) (address : ℕ) : Type 0 where
-  pub data_cell_lem : (block : Block) (cell : Cell) → Spent block → cell.0 < 32
+  pub data_cell : (block : Block) (cell : Cell) → Spent block → cell.0 < 32
       → address ≢ word_address block cell
   pub service_cell : (block : Block) (cell : Cell) → Spent block → 58 ≤ cell.0 → cell.0 ≤ 61
       → address ≢ word_address block cell

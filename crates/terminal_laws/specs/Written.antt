@@ -35,14 +35,14 @@ TableElsewhere asked message =
 pub record Stores (old : Card) (message : OpenMessage) (heard : Word) : Type 0 where
   pub next : ℕ
   pub by_rule_8 : word_judged old message heard ≡ Store next
-  pub data_cell_lem : message.taken < 32
+  pub data_cell : message.taken < 32
   pub not_busy_data : keeps_back (asks message) message ≡ false
 
 -- what an event may write: a message without a block writes nothing, nor does an opening, a queue
 -- read, a setting of the table block or of the flags
 pub data MayWrite (old : Card) : Event → ℕ → Type 0 where
   -- the next data cell of the open message's block
-  data_cell_lem : {message : OpenMessage} {heard : Word} {address : ℕ}
+  data_cell : {message : OpenMessage} {heard : Word} {address : ℕ}
       → OpenWithBlock old message → Stores old message heard
       → address ≡ word_address message.block (the_cell message.taken)
       → MayWrite old (word heard) address

@@ -60,8 +60,8 @@ module _ (told : Field) (window places ram : List ℕ) (held : Held) where
       → left ≡ quiet core ring
       → shown (card_of left.held places' ram) left.answer ≡ comes
   unfolding happened happening_of valued_at
-  setup_comes station table flags core ring left places' is is-queue is-core is_left =
-      rw (is, is_left, is-core, is-queue)
+  setup_comes station table flags core ring left places' is is_queue is_core is_left =
+      rw (is, is_left, is_core, is_queue)
 
   pub word_comes : (marks value time : ℕ) (heard : Word) (left : Held) (places' ram' : List ℕ)
       → told ≡ field.Word marks value time
@@ -69,8 +69,8 @@ module _ (told : Field) (window places ram : List ℕ) (held : Held) where
       → card_of left places' ram' ≡ (word_step heard before).card
       → shown (card_of left places' ram') (replied Silent) ≡ comes
   unfolding happened happening_of valued_at step
-  word_comes marks value time heard left places' ram' is is-heard is_left =
-      rw (is, is_left, ← is-heard, words_are_silent heard before)
+  word_comes marks value time heard left places' ram' is is_heard is_left =
+      rw (is, is_left, ← is_heard, words_are_silent heard before)
 
   pub silence_comes : (line time : ℕ) (heard : Heard) (places' ram' : List ℕ)
       → told ≡ field.Silence line time
@@ -78,7 +78,7 @@ module _ (told : Field) (window places ram : List ℕ) (held : Held) where
       ≡ seen (silence_step (eqb line 1) time before)
       → shown (card_of heard.held places' ram') (replied heard.reply) ≡ comes
   unfolding happened happening_of valued_at step
-  silence_comes line time heard places' ram' is is-heard = rw (is, is-heard)
+  silence_comes line time heard places' ram' is is_heard = rw (is, is_heard)
 
   pub queue_read_comes : (taken : RingRead)
       → told ≡ field.ReadQueue
@@ -94,12 +94,12 @@ module _ (told : Field) (window places ram : List ℕ) (held : Held) where
       → left ≡ quiet held.core held.ring
       → shown (card_of left.held places ram') left.answer ≡ comes
   unfolding happened happening_of valued_at step host_write_step
-  host_write_comes address first count left ram' is there is-ram is_left =
+  host_write_comes address first count left ram' is there is_ram is_left =
       let within = there.words address first count is in
       rw (
         is,
         is_left,
-        is-ram,
+        is_ram,
         words_written ram window address first count within.few within.there,
       )
 
@@ -111,7 +111,7 @@ module _ (told : Field) (window places ram : List ℕ) (held : Held) where
       → left ≡ quiet core held.ring
       → shown (card_of left.held places ram) left.answer ≡ comes
   unfolding happened happening_of valued_at step move_table_step
-  table_comes table core left is is-core is_left = rw (is, is_left, is-core)
+  table_comes table core left is is_core is_left = rw (is, is_left, is_core)
 
   pub flags_come : (flags : ℕ) (core : Core) (left : HeldShown)
       → told ≡ field.SetFlags flags
@@ -119,7 +119,7 @@ module _ (told : Field) (window places ram : List ℕ) (held : Held) where
       → left ≡ quiet core held.ring
       → shown (card_of left.held places ram) left.answer ≡ comes
   unfolding happened happening_of valued_at step set_flags_step
-  flags_come flags core left is is-core is_left = rw (is, is_left, is-core)
+  flags_come flags core left is is_core is_left = rw (is, is_left, is_core)
 
 pub ruleset happenings = (
   setup_comes,

@@ -64,22 +64,22 @@ module _ (out : List ℕ) (at : ℕ) (ram : List ℕ) (reply : Reply) where
   module _ (next : ℕ) (after : List ℕ) where
     pub status_line_lem : (status : ℕ) → reply ≡ Status status
         → put next after ≡ status_written out at status [] → put next after ≡ wanted
-    status_line_lem status is is-put = rw (is, is-put) (few_words out at status [] (omega arith))
+    status_line_lem status is is_put = rw (is, is_put) (few_words out at status [] (omega arith))
 
     pub words_line : (status : ℕ) (block : Block) (count : ℕ) (words : List ℕ)
         → reply ≡ Words status block count
         → words ≡ sent_part card_blocks ram block count
         → put next after ≡ status_written out at status words → put next after ≡ wanted
-    words_line status block count words is is-words is-put =
-        rw (is, is-put, is-words)
+    words_line status block count words is is_words is_put =
+        rw (is, is_put, is_words)
         (few_words out at status (sent_part card_blocks ram block count) (few_sent ram block count))
 
     pub last_line : (status command : ℕ) → reply ≡ Last status command
         → put next after ≡ status_written out at status (command ∷ []) → put next after ≡ wanted
-    last_line status command is is-put =
-        rw (is, is-put) (few_words out at status (command ∷ []) (omega arith))
+    last_line status command is is_put =
+        rw (is, is_put) (few_words out at status (command ∷ []) (omega arith))
 
-pub ruleset reply-lines = (silent_line, status_line_lem, words_line, last_line)
+pub ruleset reply_lines = (silent_line, status_line_lem, words_line, last_line)
 
 -- ---- the line of an answer
 
@@ -87,11 +87,11 @@ module _ (out : List ℕ) (at : ℕ) (ram : List ℕ) (answer : Answer) (next : 
   pub replied_line : (reply : Reply) → answer ≡ Replied reply
       → put next after ≡ line_written out at (reply_line ram reply)
       → put next after ≡ line_written out at (answer_line ram answer)
-  replied_line reply is is-put = rw is is-put
+  replied_line reply is is_put = rw is is_put
 
   pub queue_line_lem : (word : ℕ) → answer ≡ QueueWord word
       → put next after ≡ line_written out at (queue_line word)
       → put next after ≡ line_written out at (answer_line ram answer)
-  queue_line_lem word is is-put = rw is is-put
+  queue_line_lem word is is_put = rw is is_put
 
-pub ruleset answer-lines = (replied_line, queue_line_lem)
+pub ruleset answer_lines = (replied_line, queue_line_lem)

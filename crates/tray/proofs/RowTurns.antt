@@ -103,14 +103,14 @@ pub row_after : (old : HeldPassed) (message : OpenMessage) (taken : Taken) (core
     }
     ≡ passed_after old message taken
 unfolding passed_after
-row_after old message taken core fields offset is-core is-fields is-offset =
-    rw (is-core, is-fields, is-offset)
+row_after old message taken core fields offset is_core is_fields is_offset =
+    rw (is_core, is_fields, is_offset)
 
 -- ---- a row is as many turns
 
 module _ (old : HeldPassed) (message : OpenMessage) (window ram ram' : List ℕ) (room most end : ℕ)
     (taken : Taken) (is_open : old.tray.held.core.message ≡ Open message)
-    (is-end : end ≡ wants message)
+    (is_end : end ≡ wants message)
     (is_taken_lem : row_left taken ram'
     ≡ row_taken window old.at message.line old.tray.seen.setup room most
     (row_to end message) ram) where
@@ -152,12 +152,12 @@ module _ (old : HeldPassed) (message : OpenMessage) (window ram ram' : List ℕ)
           ring = old.tray.held.ring;
         }) places any.ram) tells.is_row
         ∙ sym (row_is_words found message (card_of old.tray.held places ram) is_open
-        (wanting_more message message.taken (rw is-end at tells.able.more)).in_data_lem
+        (wanting_more message message.taken (rw is_end at tells.able.more)).in_data_lem
         (omega (
           arith,
           found_few window message.line row old.at,
           tells.able.more,
-          is-end,
+          is_end,
         ))
         (found_are_data window message.line (end - message.taken) old.at))
 

@@ -65,17 +65,17 @@ module _ (ran : HeldPassed) (places ram out window : List ℕ) (told : Field) (n
       }) places' ram' out'
       ≡ takes window told next old
   unfolding takes taking taking_line
-  field_taken left places' ram' out' put' fields offset seen is_left is-put is_seen is-fields
-      is-offset =
-      rw (← is_left, ← is-put, is_seen, is-fields, is-offset)
+  field_taken left places' ram' out' put' fields offset seen is_left is_put is_seen is_fields
+      is_offset =
+      rw (← is_left, ← is_put, is_seen, is_fields, is_offset)
 
 -- a field that was read has its words in the window, and ends further on
 pub reads_on : (window : List ℕ) (at : ℕ) (seen : Seen) (reading : Reading) (told : Field)
     (next : ℕ)
     → reading ≡ read_at window at seen → reading ≡ Taken told next
     → WasRead window told at next
-reads_on window at seen reading told next is-reading is =
-    let taken : read_at window at seen ≡ Taken told next = sym is-reading ∙ is in
+reads_on window at seen reading told next is_reading is =
+    let taken : read_at window at seen ≡ Taken told next = sym is_reading ∙ is in
     record {
       words =
           record {
@@ -105,7 +105,7 @@ pub ruleset was_read = (words_of_read, further_of_read)
 -- ---- a turn
 
 module _ (ran : HeldPassed) (places ram out window : List ℕ) (last : Bool) (room : ℕ)
-    (is-room : room ≡ length out - ran.put) where
+    (is_room : room ≡ length out - ran.put) where
   abbrev before : Passed
   before = passed_of ran places ram out
 
@@ -113,17 +113,17 @@ module _ (ran : HeldPassed) (places ram out window : List ℕ) (last : Bool) (ro
       → left ≡ record { tray = ran.tray; at = ran.at; put = ran.put; stop = Full }
       → passed_of left places ram out ≡ turn window last before
   turn_full left short is_left =
-      rw is_left (general.turn_full tray_course window last before (rw is-room at short))
+      rw is_left (general.turn_full tray_course window last before (rw is_room at short))
 
   module _ (reading : Reading) (enough : line_room ≤ room)
-      (is-reading : reading ≡ read_at window ran.at ran.tray.seen) where
+      (is_reading : reading ≡ read_at window ran.at ran.tray.seen) where
     turn_by : pieces.passing tray_course
         (met_by reading window ran.at (tray_of ran.tray places ram)) last before
         ≡ turn window last before
     unfolding tray_course
     turn_by =
-        general.turn_by tray_course window last before (rw is-room at enough)
-        (ap (λ (any : Reading). met_by any window ran.at before.run) (sym is-reading))
+        general.turn_by tray_course window last before (rw is_room at enough)
+        (ap (λ (any : Reading). met_by any window ran.at before.run) (sym is_reading))
 
     pub turn_takes : (told : Field) (next : ℕ) (new : Passed) → reading ≡ Taken told next
         → new ≡ takes window told next before → new ≡ turn window last before
@@ -137,13 +137,13 @@ module _ (ran : HeldPassed) (places ram out window : List ℕ) (last : Bool) (ro
           ≡ pieces.stopped_at 0 last ran.tray.fields ran.tray.offset out ran.put
           → passed_of left places ram out' ≡ turn window last before
       unfolding pieces.passing met_by tray_course
-      turn_ends is is-stopped = rw (← turn_by, is, is_left, ← is-stopped)
+      turn_ends is is_stopped = rw (← turn_by, is, is_left, ← is_stopped)
 
       pub turn_refuses : (number place : ℕ) → reading ≡ Refused number place
           → pieces.stopped (put put' out') stop
           ≡ pieces.stopped_at number last ran.tray.fields ran.tray.offset out ran.put
           → passed_of left places ram out' ≡ turn window last before
       unfolding pieces.passing met_by tray_course
-      turn_refuses number place is is-stopped = rw (← turn_by, is, is_left, ← is-stopped)
+      turn_refuses number place is is_stopped = rw (← turn_by, is, is_left, ← is_stopped)
 
 pub ruleset turning = (turn_full, turn_takes, turn_ends, turn_refuses)

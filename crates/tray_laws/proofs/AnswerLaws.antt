@@ -136,7 +136,7 @@ answered_once {start} {bytes} one other =
     append_cancel_right one.front other.front one.left
     (sym one.parts ∙ other.parts
     ∙ ap (λ (left : List ℕ). other.front ++ left) (sym same.1)) in
-    let told-lines =
+    let told_lines_lem =
     ap (λ (fields : List Valued). told_lines (happenings fields) start.card ++ one.line)
     (sym same.0) in
     record {
@@ -146,5 +146,5 @@ answered_once {start} {bytes} one other =
       line =
           append_cancel_left (told_lines (happenings other.fields) start.card) one.line
           other.line
-          (told-lines ∙ ap (λ (all : Whole). all.text) (sym one.run ∙ other.run));
+          (told_lines_lem ∙ ap (λ (all : Whole). all.text) (sym one.run ∙ other.run));
     }

@@ -92,7 +92,7 @@ goes_on {seen = seen} {bytes = bytes} {left = left}
     let told : List ℕ = told_lines (happenings rest) new.card in
     let read : read_at bytes 0 start.seen ≡ Taken field next =
     ap (λ (before : Seen). read_at bytes 0 before) same ∙ is in
-    let field-bytes = length-drop next bytes in
+    let field_bytes = length-drop next bytes in
     let ends = (taken_within bytes 0 seen is).ends_inside in
     whole_by_reading start bytes (Taken field next) read
     ∙ ap (with_line line)
@@ -103,7 +103,7 @@ goes_on {seen = seen} {bytes = bytes} {left = left}
     (whole_from tray left).run)
     (after_field start bytes field next behind rest (no_bytes then) read
     ∙ ap (λ (more : ℕ). tray_after start more (valued_at bytes field ∷ rest))
-    (omega (arith, left_within then, field-bytes, ends, long)))
+    (omega (arith, left_within then, field_bytes, ends, long)))
 
 -- ---- where the reader takes no field
 

@@ -61,9 +61,9 @@ pieces_print_the_whole = streamed.pieces_print_the_whole
 -- ---- demand 3: one broken message costs one block
 
 one_block_recordings : (ram : List ℕ) (station table flags : ℕ) (one two : List ℕ)
-    (earlier : List Event) (heard : Word) (told-one told-two later : List Event)
-    → BrokenRecording ram station table flags one two earlier heard told-one told-two later
-    → SameRecordings ram station table flags one two earlier heard told-one told-two later
+    (earlier : List Event) (heard : Word) (told_one told_two later : List Event)
+    → BrokenRecording ram station table flags one two earlier heard told_one told_two later
+    → SameRecordings ram station table flags one two earlier heard told_one told_two later
 one_block_recordings = demand.one_block_recordings
 
 -- .. of which the program's case is a memory of zeros

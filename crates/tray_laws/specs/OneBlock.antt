@@ -98,38 +98,38 @@ module _ (ram : List ℕ) (station table flags : ℕ) where
   SpentBlock earlier heard = ThatBlock (card_after (up_to earlier heard [])).core.message
 
   module _ (one two : List ℕ) (earlier : List Event) (heard : Word)
-      (told-one told-two later : List Event) where
+      (told_one told_two later : List Event) where
     -- all that is asked: the reader accepts both recordings; they tell the same setup and events, a
     -- command, one stretch or the other, and then the same events; and what they tell is as the
     -- terminal's theorem asks
     pub record BrokenRecording : Type 0 where
       pub one_accepted : Tells nothing_seen one
-          (setup station table flags ∷ events (up_to earlier heard told-one ++ later))
+          (setup station table flags ∷ events (up_to earlier heard told_one ++ later))
       pub two_accepted : Tells nothing_seen two
-          (setup station table flags ∷ events (up_to earlier heard told-two ++ later))
-      pub broken : BrokenMessage (card_after earlier) heard told-one told-two later
+          (setup station table flags ∷ events (up_to earlier heard told_two ++ later))
+      pub broken : BrokenMessage (card_after earlier) heard told_one told_two later
 
     -- the claim
     pub record SameRecordings : Type 0 where
       -- what a run makes of each
-      pub run_one : RunsTo one (up_to earlier heard told-one) later
-      pub run_two : RunsTo two (up_to earlier heard told-two) later
+      pub run_one : RunsTo one (up_to earlier heard told_one) later
+      pub run_two : RunsTo two (up_to earlier heard told_two) later
       -- the lines of the later events are the same
       pub lines : LaterLines true later
-          (card_after (up_to earlier heard told-one)) (card_after (up_to earlier heard told-two))
+          (card_after (up_to earlier heard told_one)) (card_after (up_to earlier heard told_two))
       -- so are queue and memory after each of them, but for the spent block's cells
       pub held : SameAfter (SpentBlock earlier heard) later
-          (card_after (up_to earlier heard told-one)) (card_after (up_to earlier heard told-two))
+          (card_after (up_to earlier heard told_one)) (card_after (up_to earlier heard told_two))
       -- .. and as the two runs leave them
-      pub at_end_lem : Alike (SpentBlock earlier heard)
+      pub at_end : Alike (SpentBlock earlier heard)
           (whole_from (tray_over ram) one).run.card (whole_from (tray_over ram) two).run.card
 
   -- the same at the end of a later field: both recordings are cut there, and the claim is made of
   -- the parts before
   pub record SameUpTo (one two : List ℕ) (earlier : List Event) (heard : Word)
-      (told-one told-two now rest : List Event) : Type 0 where
+      (told_one told_two now rest : List Event) : Type 0 where
     pub cut_one : CutTelling nothing_seen one
-        (setup station table flags ∷ events (up_to earlier heard told-one ++ now)) (events rest)
+        (setup station table flags ∷ events (up_to earlier heard told_one ++ now)) (events rest)
     pub cut_two : CutTelling nothing_seen two
-        (setup station table flags ∷ events (up_to earlier heard told-two ++ now)) (events rest)
-    pub same : SameRecordings cut_one.front cut_two.front earlier heard told-one told-two now
+        (setup station table flags ∷ events (up_to earlier heard told_two ++ now)) (events rest)
+    pub same : SameRecordings cut_one.front cut_two.front earlier heard told_one told_two now

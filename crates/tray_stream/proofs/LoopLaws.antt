@@ -46,14 +46,14 @@ module _ {start : Tray} (tray : HeldTray) (pump : Pump) (places ram window out :
       → Settled pump window ran.at ran.put ran.stop next window'
       → length ram' ≡ length ram → length window' ≡ length window → length out' ≡ length out
       → Pumping start ran.tray next places' ram' window' out' (left - 1)
-  pumping_on ran places' ram' out' is-ran next window' some taken settled same-ram same-window
+  pumping_on ran places' ram' out' is_ran next window' some taken settled same_ram same_window
       same_out =
       record {
         pumping =
             general.pumping_on tray_course tray_is_steady (omega arith) (tray_of tray places ram) pump
-            window out left (passed_of ran places' ram' out') so_far.pumping is-ran next window'
-            some taken settled same-window same_out;
-        ram_as_long = same-ram ∙ so_far.ram_as_long;
+            window out left (passed_of ran places' ram' out') so_far.pumping is_ran next window'
+            some taken settled same_window same_out;
+        ram_as_long = same_ram ∙ so_far.ram_as_long;
       }
 
   -- the program is over

@@ -102,10 +102,10 @@ module _ (line : Bool) where
         → Needs line (OfEither first second) message heard
         (on_word station flags (asks message) message heard)
     unfolding on_word
-    second_needs on_line as-opened =
+    second_needs on_line as_opened =
         let same : beq line message.line ≡ true = rw on_line (beq_same line) in
         rw (same, and-false (own_command station flags heard))
-        (in_stage message.stage refl as-opened)
+        (in_stage message.stage refl as_opened)
 
   second_met : (first second time : ℕ) (now : Card) → Met line (OfFirst first) now
       → Met line (OfEither first second)

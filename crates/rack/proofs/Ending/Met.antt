@@ -82,7 +82,7 @@ module _ (line : Bool) (Holds : ℕ → Stage → Type 0) where
 
   module _ (message : OpenMessage) (heard : Word) (now : Card)
       (is : now.core.message ≡ Open message) (on_line : message.line ≡ line)
-      (heard-on : heard.line ≡ line) where
+      (heard_on : heard.line ≡ line) where
     done_met : (act : WordAct) → Needs message heard act
         → Met (word_done act (asks message) message heard now).card
     unfolding word_done further faulted closing with_message
@@ -92,8 +92,8 @@ module _ (line : Bool) (Holds : ℕ → Stage → Type 0) where
     done_met (TakeSecond value) needs = going _ refl on_line needs
     done_met TakeStatus needs = going _ refl on_line needs
     done_met (Fault code) needs = idle refl
-    done_met Supersede needs = opened_met heard _ heard-on (λ _. needs.0) (λ _. needs.1)
-    done_met Drop needs = opened_met heard now heard-on (λ _. needs.0) (λ _. needs.1)
+    done_met Supersede needs = opened_met heard _ heard_on (λ _. needs.0) (λ _. needs.1)
+    done_met Drop needs = opened_met heard now heard_on (λ _. needs.0) (λ _. needs.1)
 
     pub word_met_lem : Needs message heard (word_judged now message heard)
         → Met (step (word heard) now).card

@@ -72,16 +72,16 @@ module _ (line : Bool) (stamps : Stamps) (first : ℕ) (now : Card) where
         → ((command : ℕ) (stage : Stage) → Holds command stage → command ≡ first)
         → ((command : ℕ) → Holds command SecondCommand → ⊥)
         → Behind line Holds (turn_of line stamps spoken now) → SettledThen spoken
-    by_behind {spoken = spoken} of-first none-second (over is says) =
+    by_behind {spoken = spoken} of_first none_second (over is says) =
         record {
           settled = settles line stamps spoken now sound own is says;
           elsewhere = λ other.
               silent_if line stamps spoken now says
               (λ command stage plain holds same.
-              other (sym same ∙ ap (λ (any : ℕ). address_of any) (of-first command stage holds)));
+              other (sym same ∙ ap (λ (any : ℕ). address_of any) (of_first command stage holds)));
         }
-    by_behind of-first none-second (waits message is on_line at holds none) =
-        absurd (none-second message.command holds)
+    by_behind of_first none_second (waits message is on_line at holds none) =
+        absurd (none_second message.command holds)
 
     waiting_not : (command : ℕ) → Waiting first command SecondCommand → ⊥
     waiting_not command holds = let never = holds.awaits in clash (cc)

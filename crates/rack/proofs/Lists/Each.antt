@@ -72,10 +72,10 @@ module _ (line : Bool) (stamps : Stamps) (spoken : Spoken) where
   pub on_bus_after : (station : ℕ) {terminals : List Card} → Each KeepsStation terminals
       → OnBus station terminals → OnBus station (turn_all line stamps spoken terminals)
   unfolding turn_all
-  on_bus_after station Each.nobody on-bus = elim on-bus [ ]
+  on_bus_after station Each.nobody on_bus = elim on_bus [ ]
   on_bus_after station (Each.each keeps rest) (here is) = here (keeps ∙ is)
-  on_bus_after station (Each.each keeps rest) (there on-bus) =
-      there (on_bus_after station rest on-bus)
+  on_bus_after station (Each.each keeps rest) (there on_bus) =
+      there (on_bus_after station rest on_bus)
 
 -- two turns
 pub each_of_two : (line : Bool) (stamps later : Stamps) (spoken then : Spoken)

@@ -41,11 +41,11 @@ module _ (line : Bool) (stamps : Stamps) (spoken : Spoken) where
       → Each Holds terminals → Each (SilentElsewhere station) terminals → Different terminals
       → OnBus station terminals → Speaker Holds station terminals
   unfolding replies_to
-  find_speaker station Each.nobody silence different on-bus = elim on-bus [ ]
+  find_speaker station Each.nobody silence different on_bus = elim on_bus [ ]
   find_speaker station (Each.each {terminal} {terminals} holds hold) (Each.each silent silence)
       (Different.each apart different) (here is) =
       let others : Each (λ other. other.core.station ≢ station) terminals =
-      each_so (λ other other-apart same. other-apart (same ∙ sym is)) apart in
+      each_so (λ other other_apart same. other_apart (same ∙ sym is)) apart in
       record {
         speaker = terminal;
         holds = holds;
@@ -54,11 +54,11 @@ module _ (line : Bool) (stamps : Stamps) (spoken : Spoken) where
             rw (none_replies
             (each_so (λ other both. both.0 both.1) (each_both silence others)));
         only = Each.each (λ _. refl)
-            (each_so (λ other other-apart same. absurd (other-apart same)) others);
+            (each_so (λ other other_apart same. absurd (other_apart same)) others);
       }
   find_speaker station (Each.each {terminal} {terminals} holds hold) (Each.each silent silence)
-      (Different.each apart different) (there on-bus) =
-      let found = find_speaker station (each_both hold apart) silence different on-bus in
+      (Different.each apart different) (there on_bus) =
+      let found = find_speaker station (each_both hold apart) silence different on_bus in
       let other : terminal.core.station ≢ station =
       λ same. found.holds.1 (found.is ∙ sym same) in
       record {

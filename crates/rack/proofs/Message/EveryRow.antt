@@ -20,28 +20,28 @@ use Rattle.rack.specs.Bus.{Rack, message}
 use Rattle.rack.specs.Asked.{Asked}
 use Rattle.rack.specs.SameWords.{Promised, AskedEach, PromisedEach}
 use Rattle.rack.proofs.Message.Carry.{nothing_begins}
-use Rattle.rack.proofs.Message.Alone.Given.{FirstTurn as AloneTurn, first_turn_lem as alone-turn}
-use Rattle.rack.proofs.Message.Alone.ToAll as alone-to-all
+use Rattle.rack.proofs.Message.Alone.Given.{FirstTurn as AloneTurn, first_turn_lem as alone_turn}
+use Rattle.rack.proofs.Message.Alone.ToAll as alone_to_all
 use Rattle.rack.proofs.Message.Alone.Reply.{replied}
-use Rattle.rack.proofs.Message.Alone.ToOne as alone-to-one
+use Rattle.rack.proofs.Message.Alone.ToOne as alone_to_one
 use Rattle.rack.proofs.Message.Transfer.Commands.{FirstTurn, first_turn_lem}
 use Rattle.rack.proofs.Message.Transfer.Words.{SecondTurn, second_turn_lem}
-use Rattle.rack.proofs.Message.Transfer.ToAll as transfer-to-all
+use Rattle.rack.proofs.Message.Transfer.ToAll as transfer_to_all
 use Rattle.rack.proofs.Message.Transfer.Last.{last_reply}
-use Rattle.rack.proofs.Message.Transfer.ToOne as transfer-to-one
+use Rattle.rack.proofs.Message.Transfer.ToOne as transfer_to_one
 
 module _ (order : Order) (clock : ℕ → Stamps) (old : Rack) (asked : Asked order old) where
   -- rows of one command
   alone : order.row ≢ Between → Promised order old (message clock old)
   alone other =
-      let first : AloneTurn order clock old = alone-turn order clock old asked other in
+      let first : AloneTurn order clock old = alone_turn order clock old asked other in
       by_x first order.broadcast refl
     where
       by_x : AloneTurn order clock old → (all : Bool) → order.broadcast ≡ all
           → Promised order old (message clock old)
-      by_x first true to_all_lem = alone-to-all.promised_to_all order clock old first to_all_lem
+      by_x first true to_all_lem = alone_to_all.promised_to_all order clock old first to_all_lem
       by_x first false to_one =
-          alone-to-one.promised_to_one order clock old first
+          alone_to_one.promised_to_one order clock old first
           (replied order clock old first to_one)
 
   -- the row of two
@@ -51,11 +51,11 @@ module _ (order : Order) (clock : ℕ → Stamps) (old : Rack) (asked : Asked or
       by_x : FirstTurn order clock old → (all : Bool) → order.broadcast ≡ all
           → Promised order old (message clock old)
       by_x first true to_all_lem =
-          transfer-to-all.promised_to_all order clock old first
+          transfer_to_all.promised_to_all order clock old first
           (second_turn_lem order clock old first) to_all_lem
       by_x first false to_one =
           let second : SecondTurn order clock old first = second_turn_lem order clock old first in
-          transfer-to-one.promised_to_one order clock old first second
+          transfer_to_one.promised_to_one order clock old first second
           (last_reply order clock old first second (first.broadcast ∙ to_one)) to_one
 
   pub message_promised : Promised order old (message clock old)

@@ -90,16 +90,16 @@ module _ (message : OpenMessage) (old : Card) (value : ℕ) where
     unfolding further with_message
     at_data = record { is_open = refl; in_data_lem = refl; none_yet = refl; not_busy = not_busy }
 
-    words_end : (time : ℕ → ℕ) (place silence-time : ℕ)
+    words_end : (time : ℕ → ℕ) (place silence_time : ℕ)
         → Ended message words old
-        (step (silence message.line silence-time)
+        (step (silence message.line silence_time)
         (hears (data_words message.line time place words) (card_at value Data message old)))
     unfolding further
-    words_end time place silence-time =
+    words_end time place silence_time =
         ended_as_opened words _
         (words_then_silence (further Data (Command value) 0 message)
         (card_at value Data message old) at_data words full elsewhere in_memory time place
-        silence-time)
+        silence_time)
 
     -- the one who speaks has the address of the second command
     pub reply_ends : (stamps : Stamps) (speaker status : ℕ) → is_broadcast value ≡ false
@@ -109,13 +109,13 @@ module _ (message : OpenMessage) (old : Card) (value : ℕ) where
         (turn_of message.line stamps (Said speaker (segment status Absent words))
         (card_at value AwaitingStatus message old))
     unfolding turn_of at_station with_message
-    reply_ends stamps speaker status to_one other is-sender is-status =
+    reply_ends stamps speaker status to_one other is_sender is_status =
         let first = command_word message.line false status (stamps.word 0) in
         let behind = data_words message.line stamps.word 1 words in
-        let same : address_of status ≡ address_of value = is-status ∙ is-sender in
+        let same : address_of status ≡ address_of value = is_status ∙ is_sender in
         let strange : is_own status old ≡ false =
         strange_elsewhere status old (rw same to_one) (λ home. other (sym (home ∙ same))) in
-        rw (ne_eqb speaker old.core.station (λ home. other (sym is-sender ∙ home)))
+        rw (ne_eqb speaker old.core.station (λ home. other (sym is_sender ∙ home)))
         (subst (λ (new : Card). Ended message words old
         (step (silence message.line stamps.silence) new))
         (sym (hears_then first behind (card_at value AwaitingStatus message old)

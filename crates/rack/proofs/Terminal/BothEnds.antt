@@ -81,13 +81,13 @@ module _ (line : Bool) (stamps : Stamps) (first second : ℕ) (fit : FitTransfer
         (turn_of line later (Said speaker (segment status Absent words))
         (awaiting line time first second old))
     unfolding opening opened_core opened_message with_message with_last with_status
-    reply_taken later speaker status words is-sender is-status full =
+    reply_taken later speaker status words is_sender is_status full =
         reply_ends (message_of line false first time old) (opened_card line false first time old)
         second ready.not_busy ready.not_table
         (opened_block_in_memory old idle.rest.whole_and_fit
         (command_word line false first time))
         words full later speaker status fit.to_one
-        (sender_is_other first second fit old strange) is-sender is-status
+        (sender_is_other first second fit old strange) is_sender is_status
 
     is_awaiting : behind_commands ≡ quietly (awaiting line time first second old)
     is_awaiting = receiver_awaits first second fit old strange line stamps idle own
@@ -103,16 +103,16 @@ module _ (line : Bool) (stamps : Stamps) (first second : ℕ) (fit : FitTransfer
               ap (λ (outcome : Outcome). said_after outcome) is_awaiting
               ∙ quiet_says_nothing (awaiting line time first second old);
           station = ap (λ (outcome : Outcome). outcome.card.core.station) is_awaiting;
-          takes = λ later speaker status words is-sender is-status full.
+          takes = λ later speaker status words is_sender is_status full.
               let reply = Said speaker (segment status Absent words) in
-              let sound-then = turn_whole_and_fit line stamps spoken old sound in
+              let sound_then = turn_whole_and_fit line stamps spoken old sound in
               took_at_end line false first time old words
               (turn_of line later reply behind_commands.card) columns.first_fit ready
-              (turn_whole_and_fit line later reply behind_commands.card sound-then)
-              (turn_own_status line later reply behind_commands.card sound-then
+              (turn_whole_and_fit line later reply behind_commands.card sound_then)
+              (turn_own_status line later reply behind_commands.card sound_then
               (turn_own_status line stamps spoken old sound idle.status))
               (subst (λ (outcome : Outcome). Ended (message_of line false first time old) words
               (opened_card line false first time old) (turn_of line later reply outcome.card))
               (sym is_awaiting)
-              (reply_taken later speaker status words is-sender is-status full));
+              (reply_taken later speaker status words is_sender is_status full));
         }

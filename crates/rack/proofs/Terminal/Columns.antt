@@ -52,14 +52,14 @@ pub record AloneColumns (order : Order) : Type 0 where
 pub alone_columns : (order : Order) → order.row ≢ Between → FitOrder order → AloneColumns order
 unfolding format_for asking_in
 alone_columns order other fit =
-    let is-alone = alone order.row order.first order.second other fit.row in
+    let is_alone = alone order.row order.first order.second other fit.row in
     let table =
-    beside_kind order.first (kind_of order.first) order.row refl is-alone.fits in
+    beside_kind order.first (kind_of order.first) order.row refl is_alone.fits in
     record {
       fit = table.fit;
-      behind = rw (is-alone.asks, ← fit.broadcast) table.behind;
-      reply = rw (is-alone.asks, ← fit.broadcast) table.reply;
-      status = rw (is-alone.asks, ← fit.broadcast) table.status;
+      behind = rw (is_alone.asks, ← fit.broadcast) table.behind;
+      reply = rw (is_alone.asks, ← fit.broadcast) table.reply;
+      status = rw (is_alone.asks, ← fit.broadcast) table.status;
     }
 
 -- row 3 has none to take

@@ -65,11 +65,11 @@ module _ (message : OpenMessage) (old : Card) (at_data : AtItsData message old) 
   abbrev last : OpenMessage
   last = filled_message words message
 
-  abbrev at_end_lem : ℕ → Outcome
-  at_end_lem time = silence_done End (asks message) last time (filled words message old)
+  abbrev at_end : ℕ → Outcome
+  at_end time = silence_done End (asks message) last time (filled words message old)
 
   stored_at_end : (time cell : ℕ) → cell < length words
-      → cell_at (at_end_lem time).card.ram message.block (the_cell cell) ≡ get_or words cell 0
+      → cell_at (at_end time).card.ram message.block (the_cell cell) ≡ get_or words cell 0
   unfolding silence_done ended closing further
   stored_at_end time cell below =
       let few = takes_at_most message.command in
@@ -83,7 +83,7 @@ module _ (message : OpenMessage) (old : Card) (at_data : AtItsData message old) 
   -- words into the first cells, then the closing
   kept_at_end : (time : ℕ)
       → WritesOnly (MayChange (asks message) message.block message.table) old.ram
-      (at_end_lem time).card.ram
+      (at_end time).card.ram
   unfolding silence_done ended closing further
   kept_at_end time =
       let cells =
@@ -101,7 +101,7 @@ module _ (message : OpenMessage) (old : Card) (at_data : AtItsData message old) 
             closed.same_else address else ∙ cells.same_else old.ram address else;
       }
 
-  ended_at_end : (time : ℕ) → Ended message words old (at_end_lem time)
+  ended_at_end : (time : ℕ) → Ended message words old (at_end time)
   unfolding silence_done ended closing with_message with_switches further said_in
   ended_at_end time =
       record {
@@ -118,18 +118,18 @@ module _ (message : OpenMessage) (old : Card) (at_data : AtItsData message old) 
             old.core.station _ to_one not_shut at_data.not_busy not_last;
       }
 
-  pub words_then_silence : (time : ℕ → ℕ) (place silence-time : ℕ)
+  pub words_then_silence : (time : ℕ → ℕ) (place silence_time : ℕ)
       → Ended message words old
-      (step (silence message.line silence-time)
+      (step (silence message.line silence_time)
       (hears (data_words message.line time place words) old))
   unfolding further
-  words_then_silence time place silence-time =
-      let ends : step (silence message.line silence-time)
+  words_then_silence time place silence_time =
+      let ends : step (silence message.line silence_time)
       (hears (data_words message.line time place words) old)
-      ≡ at_end_lem silence-time =
-      ap (λ (new : Card). step (silence message.line silence-time) new)
+      ≡ at_end silence_time =
+      ap (λ (new : Card). step (silence message.line silence_time) new)
       (words_are_taken message old at_data words full time place)
       ∙ silence_step_lem (filled words message old) last (filled_is_open words message old)
-      message.line silence-time (silence_is_end words message full) in
+      message.line silence_time (silence_is_end words message full) in
       subst (λ (outcome : Outcome). Ended message words old outcome) (sym ends)
-      (ended_at_end silence-time)
+      (ended_at_end silence_time)

@@ -99,13 +99,13 @@ mode_sends_none Without broadcast legal same code to_one =
     by_test SendsNone (legal && same && (broadcast || false)) (λ may.
     by_test SendsNone (eqb code 2) (λ status. refl) (λ other.
     by_test SendsNone (leb 4 code && leb code 7) (λ switch. refl) (λ reply. refl)))
-    (λ not-allowed. refl)
+    (λ not_allowed. refl)
 mode_sends_none Sent true legal same code to_one = absurd (clash (cc))
 mode_sends_none Sent false false same code to_one = refl
 mode_sends_none Sent false true false code to_one = refl
 mode_sends_none Sent false true true code to_one = refl
 mode_sends_none Taken broadcast legal same code to_one =
-    by_test SendsNone (legal && same && (broadcast || false)) (λ may. refl) (λ not-allowed. refl)
+    by_test SendsNone (legal && same && (broadcast || false)) (λ may. refl) (λ not_allowed. refl)
 
 broadcast_sends_none : (command : ℕ) → is_broadcast command ≡ true → SendsNone (kind_of command)
 unfolding kind_of

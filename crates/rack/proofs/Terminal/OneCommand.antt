@@ -29,19 +29,19 @@ use Rattle.rack.proofs.Terminal.Opened.{
 -- where the message is opened, its words come, and the silence
 pub opened_ends : (line joined : Bool) (command time : ℕ) (old : Card) (words : List ℕ)
     → FitCommand command → length words ≡ (asked_of command).takes
-    → IsIdle old → Ready line command old → (times : ℕ → ℕ) (place silence-time : ℕ)
+    → IsIdle old → Ready line command old → (times : ℕ → ℕ) (place silence_time : ℕ)
     → Ended (message_of line joined command time old) words
     (opened_card line joined command time old)
-    (step (silence line silence-time)
+    (step (silence line silence_time)
     (hears (data_words line times place words) (opened_card line joined command time old)))
 unfolding opening opened_core opened_message with_message with_last with_status
-opened_ends line joined command time old words fit full idle ready times place silence-time =
+opened_ends line joined command time old words fit full idle ready times place silence_time =
     words_then_silence (message_of line joined command time old)
     (opened_card line joined command time old)
     (opened_at_data line joined command time old fit.legal ready.not_busy) words full
     ready.not_table
     (opened_block_in_memory old idle.rest.whole_and_fit (command_word line joined command time))
-    times place silence-time
+    times place silence_time
 
 pub command_is_taken : (line : Bool) (stamps : Stamps) (command : ℕ) (words : List ℕ) (old : Card)
     → FitCommand command → length words ≡ (asked_of command).takes

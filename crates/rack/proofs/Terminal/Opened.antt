@@ -79,7 +79,7 @@ module _ (line joined : Bool) (command time : ℕ) (old : Card) where
       → WholeAndFit outcome.card → OwnStatus outcome.card.core
       → Ended message_of words opened_card outcome → Took command words old outcome
   unfolding opening opened_core opened_message with_message with_last with_status
-  took_at_end words outcome fit ready sound own-status ended =
+  took_at_end words outcome fit ready sound own_status ended =
       let ram = outcome.card.ram in
       let block = (opened_for command old).block in
       let few = sends_at_most command in
@@ -87,7 +87,7 @@ module _ (line joined : Bool) (command time : ℕ) (old : Card) where
         idle =
             record {
               rest = record { whole_and_fit = sound; idle = ended.idle };
-              status = own-status;
+              status = own_status;
             };
         station = ended.station;
         stored = ended.stored;

@@ -45,7 +45,7 @@ abbrev pub card_at : ℕ → Stage → OpenMessage → Card → Card
 card_at value stage message old = onward old message stage (Command value) 0 old.ram
 
 module _ (message : OpenMessage) (old : Card) (first : AtItsSecond message old) (value : ℕ)
-    (asks-for-data : asks_for_data value ≡ true) where
+    (asks_for_data_lem : asks_for_data value ≡ true) where
   -- as it comes
   abbrev heard : ℕ → Word
   heard time = command_word message.line true value time
@@ -67,7 +67,7 @@ module _ (message : OpenMessage) (old : Card) (first : AtItsSecond message old) 
           first.none_yet,
           ne_eqb (address_of value) old.core.station other,
           and-false (is_broadcast message.command),
-          asks-for-data,
+          asks_for_data_lem,
           to_one,
           eq-eqb (mode_code_of value) (mode_code_of message.command) same_count,
         )
@@ -96,7 +96,7 @@ module _ (message : OpenMessage) (old : Card) (first : AtItsSecond message old) 
           first.none_yet,
           eq-eqb (address_of value) old.core.station home,
           to_all_lem,
-          asks-for-data,
+          asks_for_data_lem,
         )
 
     pub broadcast_is_dropped : (time : ℕ)

@@ -82,7 +82,7 @@ pub kept_elsewhere : (block : Block) (address : ℕ) → address / 64 ≢ block.
     → Kept (λ spent. spent ≡ block) address
 kept_elsewhere block address other =
     record {
-      data_cell_lem = λ spent cell is low named.
+      data_cell = λ spent cell is low named.
           other (omega (arith, ap (λ (any : Block). any.0) is));
       service_cell = λ spent cell is from to named.
           other (omega (arith, ap (λ (any : Block). any.0) is));

@@ -181,7 +181,7 @@ the_same_is_left : Alike (λ block. block ≡ the_block 2)
     (whole_from tray_at_start sound_recording).run.card
     (whole_from tray_at_start unsound_recording).run.card
 unfolding runs card_after ThatBlock tray_at_start
-the_same_is_left = the_recordings_are_the_same.at_end_lem
+the_same_is_left = the_recordings_are_the_same.at_end
 
 -- .. of which the state word does differ
 the_sound_state_word : get_or (whole_from tray_at_start sound_recording).run.card.ram 186 0 ≡ 0x0002

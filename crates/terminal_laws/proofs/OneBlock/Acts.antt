@@ -67,7 +67,7 @@ no_opening_if : {test : Bool} {act other : WordAct}
     → OpensNothing (cond test act other)
 no_opening_if {test} holds fails = by_test OpensNothing test holds fails
 
-ruleset no-opening = (
+ruleset no_opening = (
   no_opening_ignore,
   no_opening_store,
   no_opening_check,
@@ -91,9 +91,9 @@ module _ (heard : Word) (unjoined : heard.joined ≡ false) where
   no_opening_stage : (stage : Stage) (station : ℕ) (asked : Asked) (message : OpenMessage)
       → OpensNothing (word_in_stage stage station asked message heard)
   unfolding in_data in_second_command in_awaiting_status
-  no_opening_stage Data station asked message = rw unjoined (search no-opening depth 6)
-  no_opening_stage SecondCommand station asked message = search no-opening depth 6
-  no_opening_stage AwaitingStatus station asked message = search no-opening depth 6
+  no_opening_stage Data station asked message = rw unjoined (search no_opening depth 6)
+  no_opening_stage SecondCommand station asked message = search no_opening depth 6
+  no_opening_stage AwaitingStatus station asked message = search no_opening depth 6
   no_opening_stage Skipping station asked message = no_opening_ignore
 
   no_opening_word : (station flags : ℕ) (asked : Asked) (message : OpenMessage)

@@ -39,7 +39,7 @@ module _ {Spent : Block → Type 0} where
   pub link_kept : (block : Block) → Kept Spent (word_address block (the_cell 63))
   link_kept block =
       record {
-        data_cell_lem = λ other cell spent low same. omega arith;
+        data_cell = λ other cell spent low same. omega arith;
         service_cell = λ other cell spent from to same. omega arith;
       }
 
@@ -48,7 +48,7 @@ module _ {Spent : Block → Type 0} where
       → Kept Spent (word_address block cell)
   unspent_kept block cell unspent inside =
       record {
-        data_cell_lem = λ other cell' spent low same.
+        data_cell = λ other cell' spent low same.
             unspent (subst Spent (same_block (omega arith)) spent);
         service_cell = λ other cell' spent from to same.
             unspent (subst Spent (same_block (omega arith)) spent);
@@ -89,7 +89,7 @@ module _ {Spent : Block → Type 0} where
       → (ram : List ℕ) → Agree Spent ram (with_cell ram block cell word)
   agree_data block cell word spent low =
       agree_changed (cell_keeps block cell word)
-      (λ address kept. kept.data_cell_lem block cell spent low)
+      (λ address kept. kept.data_cell block cell spent low)
 
   pub agree_service : (block : Block) (state closing ticks : ℕ) → Spent block
       → (ram : List ℕ) → Agree Spent ram (with_service ram block state closing ticks)

@@ -71,7 +71,7 @@ use Rattle.terminal_laws.proofs.OneBlock.Relation.{
 module _ (message : OpenMessage) (core : Core) (status : ℕ)
     (but : without_error core.status ≡ without_error status) where
   -- "transmit status word" sends no words, busy or not
-  status-reply : (given busy : Bool) → kind_of message.command ≡ ModeStatus
+  status_reply : (given busy : Bool) → kind_of message.command ≡ ModeStatus
       → SameAnswer true (Open message)
       (Replied (cond (not given) Silent
       (cond (eqb (cond (busy && false) 0 0) 0) (Status core.status)
@@ -79,9 +79,9 @@ module _ (message : OpenMessage) (core : Core) (status : ℕ)
       (Replied (cond (not given) Silent
       (cond (eqb (cond (busy && false) 0 0) 0) (Status status)
       (Words status message.block 0))))
-  status-reply false busy is = same
-  status-reply true true is = status_but_error is but
-  status-reply true false is = status_but_error is but
+  status_reply false busy is = same
+  status_reply true true is = status_but_error is but
+  status_reply true false is = status_but_error is but
 
   -- "transmit last command" sends that
   last_reply : (given : Bool) → kind_of message.command ≡ ModeLast
@@ -91,31 +91,31 @@ module _ (message : OpenMessage) (core : Core) (status : ℕ)
   last_reply false is = same
   last_reply true is = last_but_error is but
 
-  asked-reply : (kind : Kind) → kind_of message.command ≡ kind → Asks kind
+  asked_reply : (kind : Kind) → kind_of message.command ≡ kind → Asks kind
       → SameAnswer true (Open message)
       (Replied (reply_of (asked_by kind message.command) core message))
       (Replied (reply_of (asked_by kind message.command) (with_status status core) message))
   unfolding reply_of replies with_status asked_by
-  asked-reply ModeStatus is asks_status =
-      status-reply (replies core message) message.busy is
-  asked-reply ModeLast is asks_last = last_reply (replies core message) is
-  asked-reply Receive is asks = elim asks [ ]
-  asked-reply Transmit is asks = elim asks [ ]
-  asked-reply ModeSwitch is asks = elim asks [ ]
-  asked-reply ModeSend is asks = elim asks [ ]
-  asked-reply ModeTake is asks = elim asks [ ]
-  asked-reply ModeReply is asks = elim asks [ ]
-  asked-reply Illegal is asks = elim asks [ ]
+  asked_reply ModeStatus is asks_status =
+      status_reply (replies core message) message.busy is
+  asked_reply ModeLast is asks_last = last_reply (replies core message) is
+  asked_reply Receive is asks = elim asks [ ]
+  asked_reply Transmit is asks = elim asks [ ]
+  asked_reply ModeSwitch is asks = elim asks [ ]
+  asked_reply ModeSend is asks = elim asks [ ]
+  asked_reply ModeTake is asks = elim asks [ ]
+  asked_reply ModeReply is asks = elim asks [ ]
+  asked_reply Illegal is asks = elim asks [ ]
 
-pub same-reply : {before : Bool} (message : OpenMessage) (core : Core) (status : ℕ)
+pub same_reply : {before : Bool} (message : OpenMessage) (core : Core) (status : ℕ)
     → Statuses before (Open message) core.status status
     → SameAnswer before (Open message)
     (Replied (reply_of (asks message) core message))
     (Replied (reply_of (asks message) (with_status status core) message))
 unfolding reply_of replies with_status
-same-reply message core status equal = same
-same-reply message core status (but_error (asking asks) but) =
-    asked-reply message core status but (kind_of message.command) refl asks
+same_reply message core status equal = same
+same_reply message core status (but_error (asking asks) but) =
+    asked_reply message core status but (kind_of message.command) refl asks
 
 -- ---- at most 32 words
 
@@ -125,49 +125,49 @@ data AtMost32 : Answer → Type 0 where
   a_last : {status last : ℕ} → AtMost32 (Replied (Last status last))
   some_words : {status : ℕ} {block : Block} {count : ℕ} → count ≤ 32
       → AtMost32 (Replied (Words status block count))
-  a-queue-word : {oldest : ℕ} → AtMost32 (QueueWord oldest)
+  a_queue_word : {oldest : ℕ} → AtMost32 (QueueWord oldest)
 
 abbrev Given : Reply → Type 0
 Given reply = AtMost32 (Replied reply)
 
-at-most-done : (act : SilenceAct) (message : OpenMessage) (time : ℕ) (old : Card)
+at_most_done : (act : SilenceAct) (message : OpenMessage) (time : ℕ) (old : Card)
     → AtMost32 (silence_done act (asks message) message time old).answer
 unfolding silence_done reply_of
-at-most-done Ignore message time old = silent
-at-most-done AwaitStatus message time old = silent
-at-most-done (Fault code) message time old = silent
-at-most-done End message time old =
+at_most_done Ignore message time old = silent
+at_most_done AwaitStatus message time old = silent
+at_most_done (Fault code) message time old = silent
+at_most_done End message time old =
     let asked = asks message in
     by_test Given (not (replies old.core message)) (λ _. silent) (λ _.
     by_test Given asked.last (λ _. a_last) (λ _.
     by_test Given (eqb (unless_busy asked message asked.sends) 0) (λ _. a_status) (λ _.
     some_words (sends_at_most message.command))))
 
-at-most-silence : (message : Message) (line : Bool) (time : ℕ) (old : Card)
+at_most_silence : (message : Message) (line : Bool) (time : ℕ) (old : Card)
     → AtMost32 (silence_met message line time old).answer
-at-most-silence Idle line time old = silent
-at-most-silence (Open message) line time old =
-    at-most-done (on_silence (asks message) message line) message time old
+at_most_silence Idle line time old = silent
+at_most_silence (Open message) line time old =
+    at_most_done (on_silence (asks message) message line) message time old
 
-at-most-answer : (event : Event) (old : Card) → AtMost32 (step event old).answer
+at_most_answer : (event : Event) (old : Card) → AtMost32 (step event old).answer
 unfolding step silence_step read_queue_step host_write_step move_table_step set_flags_step
-at-most-answer (word heard) old = subst AtMost32 (sym (words_are_silent heard old)) silent
-at-most-answer (silence line time) old = at-most-silence old.core.message line time old
-at-most-answer read_queue old = a-queue-word
-at-most-answer (host_write address words) old = silent
-at-most-answer (move_table table) old = silent
-at-most-answer (set_flags flags) old = silent
+at_most_answer (word heard) old = subst AtMost32 (sym (words_are_silent heard old)) silent
+at_most_answer (silence line time) old = at_most_silence old.core.message line time old
+at_most_answer read_queue old = a_queue_word
+at_most_answer (host_write address words) old = silent
+at_most_answer (move_table table) old = silent
+at_most_answer (set_flags flags) old = silent
 
-at-most-count : {answer : Answer} {status : ℕ} {block : Block} {count : ℕ} → AtMost32 answer
+at_most_count : {answer : Answer} {status : ℕ} {block : Block} {count : ℕ} → AtMost32 answer
     → answer ≡ Replied (Words status block count) → count ≤ 32
-at-most-count silent is = absurd (clash (cc))
-at-most-count a_status is = absurd (clash (cc))
-at-most-count a_last is = absurd (clash (cc))
-at-most-count {count = count} (some_words {count = sent} fits) is =
+at_most_count silent is = absurd (clash (cc))
+at_most_count a_status is = absurd (clash (cc))
+at_most_count a_last is = absurd (clash (cc))
+at_most_count {count = count} (some_words {count = sent} fits) is =
     let same : sent ≡ count = cc in
     omega arith
-at-most-count a-queue-word is = absurd (clash (cc))
+at_most_count a_queue_word is = absurd (clash (cc))
 
-pub sent-at-most : (event : Event) (old : Card) (status : ℕ) (block : Block) (count : ℕ)
+pub sent_at_most : (event : Event) (old : Card) (status : ℕ) (block : Block) (count : ℕ)
     → (step event old).answer ≡ Replied (Words status block count) → count ≤ 32
-sent-at-most event old status block count is = at-most-count (at-most-answer event old) is
+sent_at_most event old status block count is = at_most_count (at_most_answer event old) is

@@ -154,10 +154,10 @@ module _ {Spent : Block → Type 0} {before : Bool} (start start' : Card) (messa
         let first = supersedes Spent start message receives spent command span own unjoined in
         let second = supersedes Spent start' message receives spent command span' own' unjoined in
         let unspent' : Spent first.left.core.table → ⊥ =
-        λ on-table. unspent
+        λ on_table. unspent
         (subst Spent
         (same_table Spent start message first.span
-        ∙ sym (same_table Spent start message span)) on-table) in
+        ∙ sym (same_table Spent start message span)) on_table) in
         let opened : StillRelated Spent true here.core.message (opens command first.left)
         (opens command second.left) =
         record {

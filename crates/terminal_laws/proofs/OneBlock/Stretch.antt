@@ -198,7 +198,7 @@ module _ {Spent : Block → Type 0} (start : Card) (message : OpenMessage)
       (further stage second taken message) heard)
       heard
       (λ next judged. (stores_data start (further stage second taken message) heard next judged
-      ).data_cell_lem)
+      ).data_cell)
       quiet
   span_word heard quiet (is_gone {ram} status but agree) =
       span_own (own_command start.core.station start.core.flags heard) heard

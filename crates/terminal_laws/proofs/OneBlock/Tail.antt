@@ -89,7 +89,7 @@ use Rattle.terminal_laws.proofs.OneBlock.Changes.{
   related_ended,
   related_opening,
 }
-use Rattle.terminal_laws.proofs.OneBlock.Answers.{same-reply, sent-at-most}
+use Rattle.terminal_laws.proofs.OneBlock.Answers.{same_reply, sent_at_most}
 
 -- ---- one event, on a card and on one with another remembered status, a queue that is the same,
 -- and a memory that agrees
@@ -215,7 +215,7 @@ module _ {Spent : Block → Type 0} {before : Bool} (core : Core) (status : ℕ)
       }
   still_silence_done End message time remembered =
       record {
-        answer = same-reply message core status remembered;
+        answer = same_reply message core status remembered;
         related =
             related_ended core status queue queue' queues ram other agree (asks message) time
             message remembered;
@@ -290,7 +290,7 @@ still_same message event here _ spared good =
       answer = good.answer;
       words = λ status block count is.
           same_part block count (spared status block count is)
-          (sent-at-most event here status block count is) good.related.cells;
+          (sent_at_most event here status block count is) good.related.cells;
       cards = related_alike good.related;
     }
 

@@ -58,29 +58,29 @@ cut_there {bytes} station table flags sooner now rest tells =
     tells)
 
 module _ (ram : List ℕ) (station table flags : ℕ) (one two : List ℕ) (earlier : List Event)
-    (heard : Word) (told-one told-two : List Event) (told : Event) (now rest : List Event) where
+    (heard : Word) (told_one told_two : List Event) (told : Event) (now rest : List Event) where
   pub one_block_each_field :
-      BrokenRecording ram station table flags one two earlier heard told-one told-two
+      BrokenRecording ram station table flags one two earlier heard told_one told_two
       ((told ∷ now) ++ rest)
-      → SameUpTo ram station table flags one two earlier heard told-one told-two (told ∷ now) rest
+      → SameUpTo ram station table flags one two earlier heard told_one told_two (told ∷ now) rest
   one_block_each_field recordings =
       let met = card_after ram station table flags earlier in
       let cut_one =
-      cut_there station table flags (up_to earlier heard told-one) (told ∷ now) rest
+      cut_there station table flags (up_to earlier heard told_one) (told ∷ now) rest
       recordings.one_accepted in
       let cut_two =
-      cut_there station table flags (up_to earlier heard told-two) (told ∷ now) rest
+      cut_there station table flags (up_to earlier heard told_two) (told ∷ now) rest
       recordings.two_accepted in
       record {
         cut_one = cut_one;
         cut_two = cut_two;
         same =
             one_block_recordings ram station table flags cut_one.front cut_two.front earlier
-            heard told-one told-two (told ∷ now)
+            heard told_one told_two (told ∷ now)
             (record {
               one_accepted = cut_one.front_tells;
               two_accepted = cut_two.front_tells;
               broken =
-                  broken_sooner met heard told-one told-two told now rest recordings.broken;
+                  broken_sooner met heard told_one told_two told now rest recordings.broken;
             });
       }

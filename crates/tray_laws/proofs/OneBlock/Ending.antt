@@ -22,10 +22,10 @@ module _ (Spent : Block → Type 0) where
       → Later Spent before later here there → Alike Spent here there
       → Alike Spent (run later here) (run later there)
   unfolding Later run
-  alike_after before [] here there same-later alike = alike
-  alike_after before (told ∷ later) here there same-later alike =
+  alike_after before [] here there same_later alike = alike
+  alike_after before (told ∷ later) here there same_later alike =
       alike_after (still_before before (step told here).opened) later
-      (step told here).card (step told there).card same-later.1 same-later.0.cards
+      (step told here).card (step told there).card same_later.1 same_later.0.cards
 
   -- before them they are where both messages have closed; else there is a later event, and after
   -- the first of them they are

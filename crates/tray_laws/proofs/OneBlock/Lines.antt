@@ -17,8 +17,8 @@ use Rattle.terminal.specs.Machine.{step}
 use Rattle.terminal_laws.specs.OneBlock.{
   SameAnswer,
   same as same_answer,
-  status_but_error as status-answer,
-  last_but_error as last-answer,
+  status_but_error as status_answer,
+  last_but_error as last_answer,
   Later,
   still_before,
 }
@@ -55,17 +55,17 @@ same_line : {before : Bool} {message : Message} {answer answer' : Answer} (ram o
 same_line {before} {message} {answer} ram other long same_answer words =
     subst (λ (line : List ℕ). SameLine before message (answer_line ram answer) line)
     (same_answer_line answer ram other long words) same
-same_line ram other long (status-answer asks but) words = status_but_error _ _ asks but
-same_line ram other long (last-answer asks but) words = last_but_error _ _ _ asks but
+same_line ram other long (status_answer asks but) words = status_but_error _ _ asks but
+same_line ram other long (last_answer asks but) words = last_but_error _ _ _ asks but
 
 pub later_lines : (Spent : Block → Type 0) (before : Bool) (later : List Event) (here there : Card)
     → Later Spent before later here there → LaterLines before later here there
 unfolding Later LaterLines
-later_lines Spent before [] here there same-later = tt
-later_lines Spent before (told ∷ later) here there same-later =
-    let outcome = same-later.0 in (
+later_lines Spent before [] here there same_later = tt
+later_lines Spent before (told ∷ later) here there same_later =
+    let outcome = same_later.0 in (
       same_line (step told here).card.ram (step told there).card.ram outcome.cards.long
           outcome.answer outcome.words,
       later_lines Spent (still_before before (step told here).opened) later
-          (step told here).card (step told there).card same-later.1,
+          (step told here).card (step told there).card same_later.1,
     )

@@ -63,42 +63,42 @@ module _ (station table flags : ℕ) (earlier : List Event) (heard : Word)
 -- ---- the theorem
 
 module _ (ram : List ℕ) (station table flags : ℕ) (one two : List ℕ) (earlier : List Event)
-    (heard : Word) (told-one told-two later : List Event) where
+    (heard : Word) (told_one told_two later : List Event) where
   pub one_block_recordings :
-      BrokenRecording ram station table flags one two earlier heard told-one told-two later
-      → SameRecordings ram station table flags one two earlier heard told-one told-two later
+      BrokenRecording ram station table flags one two earlier heard told_one told_two later
+      → SameRecordings ram station table flags one two earlier heard told_one told_two later
   unfolding card_after run
   one_block_recordings recordings =
       let start = card_after ram station table flags [] in
       let met = card_after ram station table flags earlier in
       let broken = recordings.broken in
-      let at_one = run_of_append earlier (word heard ∷ told-one) start in
-      let at-two = run_of_append earlier (word heard ∷ told-two) start in
-      let here : Card = run (up_to earlier heard told-one) start in
-      let there : Card = run (up_to earlier heard told-two) start in
+      let at_one = run_of_append earlier (word heard ∷ told_one) start in
+      let at_two = run_of_append earlier (word heard ∷ told_two) start in
+      let here : Card = run (up_to earlier heard told_one) start in
+      let there : Card = run (up_to earlier heard told_two) start in
       let Spent : Block → Type 0 = SpentBlock ram station table flags earlier heard in
       let held : SameAfter Spent later here there =
-      rw (at_one, at-two, run_of_append earlier (word heard ∷ []) start)
-      (one_block met heard told-one told-two later broken) in
-      let both_over : BothOver here there later = rw (at_one, at-two) broken.both_over in
+      rw (at_one, at_two, run_of_append earlier (word heard ∷ []) start)
+      (one_block met heard told_one told_two later broken) in
+      let both_over : BothOver here there later = rw (at_one, at_two) broken.both_over in
       let run_one =
-      runs_to ram station table flags one (up_to earlier heard told-one) later
+      runs_to ram station table flags one (up_to earlier heard told_one) later
       recordings.one_accepted in
       let run_two =
-      runs_to ram station table flags two (up_to earlier heard told-two) later
+      runs_to ram station table flags two (up_to earlier heard told_two) later
       recordings.two_accepted in
-      let at_end_lem : Alike Spent (run (up_to earlier heard told-one ++ later) start)
-      (run (up_to earlier heard told-two ++ later) start) =
+      let at_end : Alike Spent (run (up_to earlier heard told_one ++ later) start)
+      (run (up_to earlier heard told_two ++ later) start) =
       rw (
-        run_of_append (up_to earlier heard told-one) later start,
-        run_of_append (up_to earlier heard told-two) later start,
+        run_of_append (up_to earlier heard told_one) later start,
+        run_of_append (up_to earlier heard told_two) later start,
       ) (left_alike Spent later here there both_over held) in
       record {
         run_one = run_one;
         run_two = run_two;
         lines = later_lines _ true later _ _ held.later;
         held = held;
-        at_end_lem = rw (run_one, run_two) at_end_lem;
+        at_end = rw (run_one, run_two) at_end;
       }
 
 -- ---- the program's case: RAM starts zero

@@ -1,7 +1,7 @@
 -- `desk::window::take_field` meets its contract: it is taken, or what it does is refused. Assumes
 -- nothing.
 use Rattle.std.proofs.Common.{rules}
-use Rattle.desk.proofs.TurnLaws.{field-passes}
+use Rattle.desk.proofs.TurnLaws.{field_passes}
 use Rattle.desk.proofs.TakenLaws.{was_read}
 use Rattle.desk.proofs.window.take_field.Goals as goal
 
@@ -9,10 +9,10 @@ pub do_field-deed-requires : goal.do_field-deed-requires
 do_field-deed-requires c = search (rules, was_read)
 
 pub returns-then-deed-ne0 : goal.returns-then-deed-ne0
-returns-then-deed-ne0 c = search (rules, field-passes) depth 9
+returns-then-deed-ne0 c = search (rules, field_passes) depth 9
 
 pub overflow_sub-size : goal.overflow_sub-size
 overflow_sub-size c = search (rules, was_read)
 
 pub returns : goal.returns
-returns c = search (rules, field-passes) depth 9
+returns c = search (rules, field_passes) depth 9

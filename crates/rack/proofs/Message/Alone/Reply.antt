@@ -45,7 +45,7 @@ pub record Replied (order : Order) (clock : ℕ → Stamps) (old : Rack) : Type 
       old.terminals)
 
 module _ (order : Order) (clock : ℕ → Stamps) (old : Rack) (first : FirstTurn order clock old)
-    (no-x : order.broadcast ≡ false) where
+    (no_x : order.broadcast ≡ false) where
   abbrev line : Bool
   line = line_in old.desk.state.control
 
@@ -56,7 +56,7 @@ module _ (order : Order) (clock : ℕ → Stamps) (old : Rack) (first : FirstTur
   words = data_given order old.desk
 
   to_one : is_broadcast command ≡ false
-  to_one = first.broadcast ∙ no-x
+  to_one = first.broadcast ∙ no_x
 
   -- ---- the first turn: one terminal replies
 
@@ -84,7 +84,7 @@ module _ (order : Order) (clock : ℕ → Stamps) (old : Rack) (first : FirstTur
       ≡ waiting
   is_waiting =
       given_turn order old.desk (clock first_turn) (segment command Absent words)
-      ∙ rw (first.columns.status, no-x)
+      ∙ rw (first.columns.status, no_x)
 
   -- ---- the second turn: the controller takes the reply
 

@@ -56,9 +56,9 @@ module _ (order : Order) (clock : ℕ → Stamps) (old : Rack) where
     pub same_behind_command : KeepsGiven ram → (format_for order).reply ≡ 0
         → data_cell order.row ≡ 1 → (terminal : Card) → TookFirst terminal
         → SameFirst ram terminal
-    same_behind_command kept none-back at_1 terminal done cell below =
+    same_behind_command kept none_back at_1 terminal done cell below =
         let given = first.alone.given in
-        let inside : cell < (format_for order).behind = omega (arith, none-back) in
+        let inside : cell < (format_for order).behind = omega (arith, none_back) in
         let long = data_given_long order old.desk first.starts in
         let from : ℕ = (format_for order).given - (format_for order).behind + cell in
         let same : from ≡ data_cell order.row + cell = omega (arith, given, at_1) in

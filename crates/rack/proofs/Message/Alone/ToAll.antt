@@ -68,10 +68,10 @@ module _ (order : Order) (clock : ℕ → Stamps) (old : Rack) (first : FirstTur
   same : Moves order → (terminal : Card) → TookFirst order clock old terminal
       → SameFirst order clock old old.desk.ram terminal
   same (nothing none) terminal done = λ cell below. absurd (omega (arith, none))
-  same (behind_command none-back at_1) terminal done =
-      same_behind_command order clock old first old.desk.ram (λ cell below. refl) none-back at_1
+  same (behind_command none_back at_1) terminal done =
+      same_behind_command order clock old first old.desk.ram (λ cell below. refl) none_back at_1
       terminal done
-  same (behind_status none-given at-2 answers) terminal done =
+  same (behind_status none_given at-2 answers) terminal done =
       let never : (format_for order).status ≡ false = first.columns.status ∙ rw to_all_lem in
       absurd (clash (cc))
 

@@ -60,28 +60,28 @@ module _ (order : Order) (clock : ℕ → Stamps) (old : Rack) (first : FirstTur
   -- data behind the status: the speaker's cells are the controller's
   same_behind_status : (format_for order).behind ≡ 0 → data_cell order.row ≡ 2
       → SameFirst order clock old filled got.speaker
-  same_behind_status none-given at-2 cell below =
+  same_behind_status none_given at-2 cell below =
       let given = first.alone.given in
       let at : (format_for order).given + 1 + cell ≡ data_cell order.row + cell =
-      omega (arith, none-given, at-2) in
+      omega (arith, none_given, at-2) in
       sym (ap (λ (any : ℕ). cell_at filled block (the_cell any)) (sym at)
       ∙ answer_held old.desk.ram block (format_for order).given got.status got.reply cell
-      (omega (arith, replied.full, none-given))
+      (omega (arith, replied.full, none_given))
       (omega (arith, replied.full, last_at_most order))
       (desk_block_in_memory old.desk first.starts)
-      ∙ got.shows cell (omega (arith, none-given, first.columns.reply)))
+      ∙ got.shows cell (omega (arith, none_given, first.columns.reply)))
 
   same : Moves order → (terminal : Card)
       → (terminal.core.station ≡ address_of command → terminal ≡ got.speaker)
       → is_own command terminal ≡ true → TookFirst order clock old terminal
       → SameFirst order clock old filled terminal
   same (nothing none) terminal only own done = λ cell below. absurd (omega (arith, none))
-  same (behind_command none-back at_1) terminal only own done =
-      same_behind_command order clock old first filled filled_keeps none-back at_1 terminal done
-  same (behind_status none-given at-2 answers) terminal only own done =
+  same (behind_command none_back at_1) terminal only own done =
+      same_behind_command order clock old first filled filled_keeps none_back at_1 terminal done
+  same (behind_status none_given at-2 answers) terminal only own done =
       subst (λ (any : Card). SameFirst order clock old filled any)
       (sym (only (own_is_home command terminal replied.to_one own)))
-      (same_behind_status none-given at-2)
+      (same_behind_status none_given at-2)
 
   pub promised_to_one : Promised order old (message clock old)
   unfolding ended with_message

@@ -37,24 +37,24 @@ module _ (line : Bool) (stamps : Stamps) (first second : ℕ) where
   begun fit old idle ready =
       by_own (is_own second old) refl (is_own first old) refl ready
     where
-      by_own : (own-second : Bool) → is_own second old ≡ own-second
+      by_own : (own_second : Bool) → is_own second old ≡ own_second
           → (own_IsFirst : Bool) → is_own first old ≡ own_IsFirst
-          → ReadyFor line (cond own-second (some second) (cond own_IsFirst (some first) none)) old
+          → ReadyFor line (cond own_second (some second) (cond own_IsFirst (some first) none)) old
           → Begun old
       by_own true own own_IsFirst is ready =
           sends own (transmitter_took line stamps first second fit old idle own ready)
       by_own false strange true own ready =
           waits strange own (receiver_waits line stamps first second fit old idle strange own ready)
-      by_own false strange false strange-first ready =
-          stays strange strange-first
+      by_own false strange false strange_first ready =
+          stays strange strange_first
           (quiet_at_given line stamps old idle.rest.idle (segment first (Command second) [])
-          (record { first = strange-first; second = strange }))
+          (record { first = strange_first; second = strange }))
 
   pub begun_station : (old : Card) → Begun old
       → KeepsStation line stamps (commands_of first second) old
   begun_station old (sends own took) = took.station
   begun_station old (waits strange own waiting) = waiting.station
-  begun_station old (stays strange strange-first quiet) =
+  begun_station old (stays strange strange_first quiet) =
       ap (λ (any : Outcome). any.card.core.station) quiet
 
   -- ---- the second command is to one station
@@ -67,7 +67,7 @@ module _ (line : Bool) (stamps : Stamps) (first second : ℕ) where
     begun_took (waits strange own waiting) home =
         let never : is_own second old ≡ true = own_at_home second old to_one home in
         absurd (clash (cc))
-    begun_took (stays strange strange-first quiet) home =
+    begun_took (stays strange strange_first quiet) home =
         let never : is_own second old ≡ true = own_at_home second old to_one home in
         absurd (clash (cc))
 
@@ -76,5 +76,5 @@ module _ (line : Bool) (stamps : Stamps) (first second : ℕ) where
         → SilentElsewhere line stamps (commands_of first second) (address_of second) old
     begun_elsewhere (sends own took) other = absurd (other (own_is_home second old to_one own))
     begun_elsewhere (waits strange own waiting) other = waiting.silent
-    begun_elsewhere (stays strange strange-first quiet) other =
+    begun_elsewhere (stays strange strange_first quiet) other =
         ap (λ (any : Outcome). said_after any) quiet ∙ quiet_says_nothing old

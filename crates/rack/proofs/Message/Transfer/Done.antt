@@ -48,8 +48,8 @@ module _ (line : Bool) (stamps later : Stamps) (first second status : ℕ) (repl
   done home low full old idle (waits strange own waiting) =
       received strange own
       (waiting.takes later (address_of second) status reply refl home full)
-  done home low full old idle (stays strange strange-first quiet) =
-      stayed strange strange-first
+  done home low full old idle (stays strange strange_first quiet) =
+      stayed strange strange_first
       (ap (λ (any : Outcome). turn_of line later (reply_to second status reply) any.card) quiet
       ∙ quiet_at_reply line later old idle.rest.idle (address_of second) status reply home low)
 
@@ -58,7 +58,7 @@ module _ (line : Bool) (stamps later : Stamps) (first second status : ℕ) (repl
   done_idle old idle (sent own took quiet) =
       subst (λ (any : Outcome). IsIdle any.card) (sym quiet) took.idle
   done_idle old idle (received strange own took) = took.idle
-  done_idle old idle (stayed strange strange-first quiet) =
+  done_idle old idle (stayed strange strange_first quiet) =
       subst (λ (any : Outcome). IsIdle any.card) (sym quiet) idle
 
   -- to all: nothing more comes back
@@ -67,5 +67,5 @@ module _ (line : Bool) (stamps later : Stamps) (first second status : ℕ) (repl
   done_silent to_all_lem old (sent own took quiet) =
       ap (λ (any : Outcome). said_after any) quiet ∙ quiet_says_nothing (after old).card
   done_silent to_all_lem old (received strange own took) = took.silent to_all_lem
-  done_silent to_all_lem old (stayed strange strange-first quiet) =
+  done_silent to_all_lem old (stayed strange strange_first quiet) =
       ap (λ (any : Outcome). said_after any) quiet ∙ quiet_says_nothing old

@@ -99,7 +99,7 @@ module _ (order : Order) (clock : ℕ → Stamps) (old : Rack) (first : FirstTur
               subst (λ (station : ℕ). station ≤ last_station) (sym keeps)
               (idle_station terminal idle);
         }
-    replies (stayed strange strange-first quiet) home =
+    replies (stayed strange strange_first quiet) home =
         let never : is_own order.first terminal ≡ true =
         own_at_home order.first terminal to_one (sym keeps ∙ home) in
         absurd (clash (cc))
@@ -113,7 +113,7 @@ module _ (order : Order) (clock : ℕ → Stamps) (old : Rack) (first : FirstTur
         ∙ quiet_says_nothing (behind_first terminal).card
     elsewhere (received strange own took) other =
         absurd (other (keeps ∙ own_is_home order.first terminal to_one own))
-    elsewhere (stayed strange strange-first quiet) other =
+    elsewhere (stayed strange strange_first quiet) other =
         ap (λ (any : Outcome). said_after any) quiet ∙ quiet_says_nothing terminal
 
   -- ---- of all terminals

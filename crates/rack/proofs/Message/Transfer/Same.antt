@@ -129,8 +129,8 @@ module _ (order : Order) (clock : ℕ → Stamps) (old : Rack) (first : FirstTur
       serve terminal only (received strange own took) =
           rw (first.two.takes terminal, strange, own)
           (took.idle, same_received terminal took, took.kept)
-      serve terminal only (stayed strange strange-first quiet) =
-          rw (first.two.takes terminal, strange, strange-first)
+      serve terminal only (stayed strange strange_first quiet) =
+          rw (first.two.takes terminal, strange, strange_first)
           (ap (λ (any : Outcome). any.card) quiet)
 
       pub all_served : EachOf (λ before after.
