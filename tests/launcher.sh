@@ -88,7 +88,7 @@ ln -s "$PWD/tray" "$room/link"
 (cd examples && "$room/link" run eight.bin) | cmp -s examples/eight.lines ||
     wrong "a call through a link"
 
-# ---- the emulator is not told anything by the caller's variables
+# ---- the caller's variables change nothing
 tried=$((tried + 1))
 QEMU_STRACE=1 ./tray example 2>&1 | cmp -s examples/tray.lines || wrong "with QEMU_STRACE set"
 

@@ -17,7 +17,7 @@ pub record Buffers (have : ℕ) (window out : List ℕ) : Type 0 where
 
 -- ---- a read
 
--- whether an answer of the C library tells that a read failed
+-- whether an answer tells that a read failed
 abbrev pub is_failure : ℤ → Bool
 is_failure (pos count) = false
 is_failure (negsuc count) = true
