@@ -133,11 +133,11 @@ tray=./tray
 
 # ---- the first call proves and builds, later ones only where a source is newer; an rt that only
 # ---- copies stands in for the kit's, in a repository of its own
-mkdir -p "$room/bin" "$room/own/crates/some" "$room/own/examples"
+mkdir -p "$room/bin" "$room/own/crates/some/src" "$room/own/examples"
 for name in tray_run controller_run controller_cells; do mkdir "$room/own/crates/$name"; done
 cp tray "$room/own"
 cp examples/tray.bin "$room/own/examples"
-touch "$room/own/crates.txt" "$room/own/crates/some/source"
+touch "$room/own/crates.txt" "$room/own/crates/some/source" "$room/own/crates/some/src/gone"
 cat >"$room/bin/rt" <<END_OF_RT
 #!/bin/sh
 mkdir -p out
@@ -171,6 +171,9 @@ touch "$room/own/crates/some/source"
 builds examples/tray.lines tray_run run examples/tray.bin
 prints examples/tray.lines example
 builds examples/orders.lines controller_run control examples/orders.bin
+rm "$room/own/crates/some/src/gone"
+builds examples/tray.lines tray_run run examples/tray.bin
+prints examples/tray.lines example
 touch "$room/own/crates/some/fault"
 call example
 if [ "$status" -ne 2 ] || [ -s "$room/printed" ] ||

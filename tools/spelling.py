@@ -84,8 +84,8 @@ def of_page(text):
     """A document: names between backticks, a theorem where its file stands before it."""
     def span(match):
         part = STATED.sub(
-            lambda stated: f"{stated[1]}{stated[2]}." + spelled(stated[3], stated[2] == "Determined"),
-            match[0])
+            lambda stated: f"{stated[1]}{stated[2]}."
+            + spelled(stated[3], stated[2] == "Determined"), match[0])
         return names(part, False, humped=True)
     return SPAN.sub(span, text)
 

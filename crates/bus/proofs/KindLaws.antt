@@ -16,7 +16,8 @@ use Rattle.bus.specs.Kind.{mode_kind_of, legal_mode_of, kind_of}
 -- ---- a legal mode command, by its data word
 
 module _ (asked : Kind) (code : ℕ) (word : ModeWord) where
-  pub kind_without : word ≡ Without → asked ≡ mode_kind_of Without code → asked ≡ mode_kind_of word code
+  pub kind_without : word ≡ Without → asked ≡ mode_kind_of Without code
+      → asked ≡ mode_kind_of word code
   kind_without is same = rw is same
 
   pub kind_sent : word ≡ Sent → asked ≡ mode_kind_of Sent code → asked ≡ mode_kind_of word code

@@ -1,6 +1,33 @@
 -- Words in the cells of a block, for memory of any length: several that are stored one after the
 -- other stand there, and a part of memory is the words of its cells. Assumes nothing.
-use Rattle.std.proofs.Common.{◌≡◌, ℕ, zero, suc, ◌+◌, ◌<◌, ◌≤◌, ◌≢◌, List, [], ◌∷◌, length, get_or, take, drop, sym, refl, ap, ◌∙◌, add-zero, arith, length-drop, length-take, get_or-drop, get_or-take, ext_get_or}
+use Rattle.std.proofs.Common.{
+  ◌≡◌,
+  ℕ,
+  zero,
+  suc,
+  ◌+◌,
+  ◌<◌,
+  ◌≤◌,
+  ◌≢◌,
+  List,
+  [],
+  ◌∷◌,
+  length,
+  get_or,
+  take,
+  drop,
+  sym,
+  refl,
+  ap,
+  ◌∙◌,
+  add-zero,
+  arith,
+  length-drop,
+  length-take,
+  get_or-drop,
+  get_or-take,
+  ext_get_or,
+}
 use Rattle.card.specs.declared.place.Block.{Block}
 use Rattle.card.specs.declared.place.Cell.{Cell}
 use Rattle.card.specs.Memory.{block_cells, the_cell, word_address, cell_at, with_cell, with_cells}
@@ -43,7 +70,8 @@ cell_before_cells (word ∷ words) ram block cell before less =
 pub cell_of_with_cells : (words ram : List ℕ) (block : Block) (cell place : ℕ)
     → place < length words → cell + length words ≤ block_cells
     → word_address block (the_cell (cell + length words)) ≤ length ram
-    → cell_at (with_cells ram block cell words) block (the_cell (cell + place)) ≡ get_or words place 0
+    → cell_at (with_cells ram block cell words) block (the_cell (cell + place))
+    ≡ get_or words place 0
 unfolding with_cells
 cell_of_with_cells [] ram block cell place inside few in_memory = absurd (omega arith)
 cell_of_with_cells (word ∷ words) ram block cell zero inside few in_memory =

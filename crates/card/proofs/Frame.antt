@@ -4,7 +4,29 @@
 --                          keeps to
 --     link-moves           what stands in the table cell after `cell 63 into the table cell`
 -- Assumes nothing.
-use Rattle.std.proofs.Common.{◌≡◌, ℕ, suc, ◌+◌, ◌/◌, ◌%◌, ◌<◌, ◌≤◌, ◌≢◌, List, [], ◌∷◌, length, get_or, set, sym, refl, ◌∙◌, subst, arith, get_or-set_other}
+use Rattle.std.proofs.Common.{
+  ◌≡◌,
+  ℕ,
+  suc,
+  ◌+◌,
+  ◌/◌,
+  ◌%◌,
+  ◌<◌,
+  ◌≤◌,
+  ◌≢◌,
+  List,
+  [],
+  ◌∷◌,
+  length,
+  get_or,
+  set,
+  sym,
+  refl,
+  ◌∙◌,
+  subst,
+  arith,
+  get_or-set_other,
+}
 use native.Mathlib.Decide.{dec_lt}
 use lib.Seq.{sets, length-sets}
 use Rattle.card.specs.declared.place.Block.{Block}
@@ -128,7 +150,8 @@ pub link_keeps : (block table : Block) (cell : Cell)
 unfolding with_link
 link_keeps block table cell =
     record {
-      same_length = λ ram. (cell_keeps table cell (cell_at ram block (the_cell 63))).same_length ram;
+      same_length =
+          λ ram. (cell_keeps table cell (cell_at ram block (the_cell 63))).same_length ram;
       same_else = λ ram address else.
           (cell_keeps table cell (cell_at ram block (the_cell 63))).same_else ram address else;
     }

@@ -1,6 +1,28 @@
 -- The laws of `specs/Host.antt`, and the loop of `write_words`: what is left to store takes memory
 -- as it is to memory as it is to be. Assumes nothing.
-use Rattle.std.proofs.Common.{◌≡◌, ℕ, ◌+◌, ◌<◌, ◌≤◌, leb, List, length, get_or, drop, set, sym, ap, ◌∙◌, add-zero, add-one, arith, length-set, drop_of_length-le, drop-cons, le-leb}
+use Rattle.std.proofs.Common.{
+  ◌≡◌,
+  ℕ,
+  ◌+◌,
+  ◌<◌,
+  ◌≤◌,
+  leb,
+  List,
+  length,
+  get_or,
+  drop,
+  set,
+  sym,
+  ap,
+  ◌∙◌,
+  add-zero,
+  add-one,
+  arith,
+  length-set,
+  drop_of_length-le,
+  drop-cons,
+  le-leb,
+}
 use lib.Seq.{sets, set_out}
 use Rattle.card.specs.Memory.{words_in}
 use Rattle.card.specs.Host.{wrote, most_written, is_write}

@@ -1,6 +1,21 @@
 -- A block that is lent: its part of memory, as far as memory has it. What is done to the lent
 -- cells, which are a memory of one block, is done to that block of the whole. Assumes nothing.
-use Rattle.std.proofs.Common.{◌≡◌, ℕ, ◌+◌, ◌-◌, ◌/◌, ◌%◌, ◌<◌, ◌≤◌, min, List, length, sym, ◌∙◌, arith}
+use Rattle.std.proofs.Common.{
+  ◌≡◌,
+  ℕ,
+  ◌+◌,
+  ◌-◌,
+  ◌/◌,
+  ◌%◌,
+  ◌<◌,
+  ◌≤◌,
+  min,
+  List,
+  length,
+  sym,
+  ◌∙◌,
+  arith,
+}
 use native.Mathlib.Decide.{dec_lt}
 use borrow.Rule.Slice.PartMut.{mid_of, put_mid, mid_len, put_same}
 use Rattle.rules.proofs.LentPart.{lent_store}

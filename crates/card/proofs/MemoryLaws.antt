@@ -1,6 +1,24 @@
 -- The laws of `specs/Memory.antt`, for any number of blocks: the address law, and a store or a read
 -- on each way that the code takes. Assumes nothing.
-use Rattle.std.proofs.Common.{◌≡◌, ℕ, ◌<◌, ◌≤◌, ◌≢◌, List, length, get_or, set, sym, ap, ◌∙◌, arith, length-set, get_or-set_same, le-ltb, lt-ltb}
+use Rattle.std.proofs.Common.{
+  ◌≡◌,
+  ℕ,
+  ◌<◌,
+  ◌≤◌,
+  ◌≢◌,
+  List,
+  length,
+  get_or,
+  set,
+  sym,
+  ap,
+  ◌∙◌,
+  arith,
+  length-set,
+  get_or-set_same,
+  le-ltb,
+  lt-ltb,
+}
 use native.Mathlib.Decide.{dec_lt}
 use lib.ListN.{get_or-eq_default}
 use lib.Seq.{set_out}
@@ -70,7 +88,8 @@ module _ (ram : List ℕ) (block : Block) (cell : Cell) (word : ℕ) where
   pub with_cell_out : length ram ≤ word_address block cell → ram ≡ with_cell ram block cell word
   with_cell_out out =
       elim (dec_lt cell.0 block_cells) [
-        | yes inside ↦ sym (with_cell_inside inside ∙ set_out ram (word_address block cell) word out)
+        | yes inside ↦
+            sym (with_cell_inside inside ∙ set_out ram (word_address block cell) word out)
         | no past ↦ with_cell_past (omega arith)
       ]
 
@@ -94,7 +113,8 @@ pub ruleset alone = (alone_inside, alone_past, alone_out)
 -- ---- a read
 
 module _ (ram : List ℕ) (block : Block) (cell : Cell) (address : ℕ) where
-  pub cell_inside : address ≡ word_address block cell → get_or ram address 0 ≡ cell_at ram block cell
+  pub cell_inside : address ≡ word_address block cell
+      → get_or ram address 0 ≡ cell_at ram block cell
   unfolding cell_at
   cell_inside is = rw is
 

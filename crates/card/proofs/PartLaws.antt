@@ -1,6 +1,30 @@
 -- The laws of `specs/Part.antt`: what the number 0 tells, the part on either way, and the part of
 -- two memories. Assumes nothing.
-use Rattle.std.proofs.Common.{◌≡◌, ℕ, ◌+◌, ◌-◌, ◌<◌, ◌≤◌, cond, ◌&&◌, leb, List, [], length, take, drop, sym, refl, ◌∙◌, arith, le-ltb, lt-ltb, eq-eqb, ne_eqb, le-leb}
+use Rattle.std.proofs.Common.{
+  ◌≡◌,
+  ℕ,
+  ◌+◌,
+  ◌-◌,
+  ◌<◌,
+  ◌≤◌,
+  cond,
+  ◌&&◌,
+  leb,
+  List,
+  [],
+  length,
+  take,
+  drop,
+  sym,
+  refl,
+  ◌∙◌,
+  arith,
+  le-ltb,
+  lt-ltb,
+  eq-eqb,
+  ne_eqb,
+  le-leb,
+}
 use native.Mathlib.Decide.{ℕ_discrete, dec_le, dec_lt}
 use borrow.Author.Tests.{lt-leb}
 use Rattle.card.specs.declared.place.Block.{Block}
@@ -86,7 +110,8 @@ module _ (blocks most : ℕ) (ram : List ℕ) (block : Block) (count number : �
       rw (ne_eqb (part_refusal blocks most (length ram) block count) 0 (rw asked at refused))
 
   module _ (start : ℕ) where
-    pub part_ends : number ≡ 0 → start ≡ word_address block (the_cell 0) → start + count ≤ length ram
+    pub part_ends : number ≡ 0 → start ≡ word_address block (the_cell 0)
+        → start + count ≤ length ram
     part_ends none starts =
         omega (arith, shown blocks most (length ram) block count (sym asked ∙ none))
 

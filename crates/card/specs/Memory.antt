@@ -1,6 +1,20 @@
 -- Card memory as the list of its words, and the cells of its blocks. Where a cell lies and what a
 -- store to it does hangs on no size of card. Definitions only. Assumes nothing.
-use Rattle.std.specs.Prelude.{ℕ, ◌+◌, ◌*◌, ◌/◌, ◌%◌, Bool, cond, List, [], ◌∷◌, nat_lt, slice_index, slice_set}
+use Rattle.std.specs.Prelude.{
+  ℕ,
+  ◌+◌,
+  ◌*◌,
+  ◌/◌,
+  ◌%◌,
+  Bool,
+  cond,
+  List,
+  [],
+  ◌∷◌,
+  nat_lt,
+  slice_index,
+  slice_set,
+}
 use Rattle.card.specs.declared.place.Block.{Block}
 use Rattle.card.specs.declared.place.Cell.{Cell}
 

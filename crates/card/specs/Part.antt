@@ -9,7 +9,8 @@ use Rattle.card.specs.Memory.{block_cells, words_in, the_cell, is_block, word_ad
 unfoldable pub part_refusal : ℕ → ℕ → ℕ → Block → ℕ → ℕ
 part_refusal blocks most size block count =
     cond (size == words_in blocks)
-    (cond (is_block blocks block && nat_le 1 count && nat_le count most && nat_le count block_cells) 0 8)
+    (cond (is_block blocks block && nat_le 1 count && nat_le count most && nat_le count block_cells)
+    0 8)
     1
 
 -- the words; none where the part is refused

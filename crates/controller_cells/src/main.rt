@@ -19,6 +19,7 @@ fn print_left<O: Write>(output: &mut O, run: Run, ram: &[u16; 16384]) {
     let next = state::put_state(out, 0, run);
     let end = cells::put_cells(out, next, memory);
     let text = &out[..];
+    // whether they were taken is not asked: nothing comes behind them
     output.write_all(&text[0..end]).is_ok();
 }
 

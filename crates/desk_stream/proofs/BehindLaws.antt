@@ -63,7 +63,8 @@ module _ (front back : List ℕ) where
   -- ---- the controller's own fields
 
   own_number_stays : (size : ℕ) (due : Bool)
-      → Stays is_settled_number (own_refusal front 0 size due) (own_refusal (front ++ back) 0 size due)
+      → Stays is_settled_number (own_refusal front 0 size due)
+      (own_refusal (front ++ back) 0 size due)
   unfolding own_refusal
   own_number_stays size due =
       open_way is_settled_number 5 (ltb left 3) (ltb left' 3) refl (still 3) (λ long.

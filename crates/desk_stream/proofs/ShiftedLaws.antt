@@ -95,7 +95,8 @@ module _ (start : ℕ) (bytes : List ℕ) where
       tag_from : byte_at bytes start ≡ byte_at rest 0
       tag_from = ap (byte_at bytes) (sym (add-zero start)) ∙ byte_of_drop start bytes 0
 
-      read_from_lem : recording.read_at bytes start seen ≡ shifted start (recording.read_at rest 0 seen)
+      read_from_lem : recording.read_at bytes start seen
+          ≡ shifted start (recording.read_at rest 0 seen)
       read_from_lem =
           ap (λ (from : ℕ). recording.read_at bytes from seen) (sym (add-zero start))
           ∙ dropped_bytes start bytes 0 seen

@@ -83,7 +83,8 @@ module _ (out : List ℕ) (at status : ℕ) (words : List ℕ) where
   unfolding status_written
   many_words many = rw (lt-leb (length words) most_words many)
 
-  pub take_status_written : at ≤ length out → line_room ≤ length out - at → length words ≤ most_words
+  pub take_status_written : at ≤ length out → line_room ≤ length out - at
+      → length words ≤ most_words
       → take (status_written out at status words).next (status_written out at status words).bytes
       ≡ take at out ++ status_line status words
   take_status_written inside enough few =

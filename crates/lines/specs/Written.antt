@@ -34,7 +34,8 @@ most_words = 32
 -- a status line: of more words than that, nothing is written
 unfoldable pub status_written : List ℕ → ℕ → ℕ → List ℕ → Put
 status_written out at status words =
-    cond (leb (length words) most_words) (line_written out at (status_line status words)) (put at out)
+    cond (leb (length words) most_words) (line_written out at (status_line status words))
+    (put at out)
 
 -- the words that a message gives at the most: a command and those
 abbrev pub most_given : ℕ

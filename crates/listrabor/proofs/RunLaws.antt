@@ -31,7 +31,8 @@ module _ (recording ram out : List ℕ) (number : ℕ)
   module _ (none : number ≡ 0) where
     enough : whole_room (length recording) ≤ length out
     unfolding size_refusal
-    enough = go (eqb (length ram) card_words) (ltb (length out) (whole_room (length recording))) refl
+    enough =
+        go (eqb (length ram) card_words) (ltb (length out) (whole_room (length recording))) refl
         (sym is_number ∙ none)
       where
         go : (card short : Bool) → ltb (length out) (whole_room (length recording)) ≡ short

@@ -40,6 +40,9 @@ module _ (bytes words room : ℕ) where
       → 0 ≡ size_refusal bytes words room
   unfolding size_refusal
   can_be_used card last enough =
-      rw (eq-eqb words card_words card, le-ltb room (whole_room bytes) (omega (arith, last, enough)))
+      rw (
+        eq-eqb words card_words card,
+        le-ltb room (whole_room bytes) (omega (arith, last, enough)),
+      )
 
 pub ruleset sizes = (too_long, room_there, other_memory, no_last_line, few_lines, can_be_used)

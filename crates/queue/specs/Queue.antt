@@ -1,6 +1,25 @@
 -- The queue: a ring of 256 places and its overflow mark. A place is counted modulo 256, so that the
 -- place after the last is the first again. Definitions only. Assumes nothing.
-use Rattle.std.specs.Prelude.{Bool, true, false, cond, ◌&&◌, List, [], ◌∷◌, ℕ, ◌+◌, ◌-◌, ◌%◌, eqb, leb, ltb, get_or, set, replicate}
+use Rattle.std.specs.Prelude.{
+  Bool,
+  true,
+  false,
+  cond,
+  ◌&&◌,
+  List,
+  [],
+  ◌∷◌,
+  ℕ,
+  ◌+◌,
+  ◌-◌,
+  ◌%◌,
+  eqb,
+  leb,
+  ltb,
+  get_or,
+  set,
+  replicate,
+}
 use Rattle.bits.specs.Bit.{weight_of}
 use Rattle.queue.specs.declared.Ring.{Ring}
 use Rattle.queue.specs.declared.Queue.{Queue}

@@ -1,6 +1,6 @@
 -- A part of a slice that was lent and came back: what a store to the part is to the whole.
--- `mid_of` and `put_mid` are what the borrow checker says of `&mut whole[start..end]`: the part as it
--- is lent, and the whole with the part put back. Assumes nothing.
+-- `mid_of` and `put_mid` are what the borrow checker says of `&mut whole[start..end]`: the part as
+-- it is lent, and the whole with the part put back. Assumes nothing.
 use mathlib.Core.Path.{◌≡◌, sym, ap, ◌∙◌}
 use mathlib.Core.List.{List, [], ◌∷◌, ◌++◌}
 use Prim.Native.Nat.{ℕ, ◌+◌, ◌-◌, ◌≤◌, ◌<◌, min}

@@ -27,7 +27,8 @@ grown_by window part have count more next answer inside counts is_next told =
           ap (λ (size : ℕ). take size (take have window ++ (part ++ behind))) is_next
           ∙ ap (λ (size : ℕ). take (size + more) (take have window ++ (part ++ behind))) (sym front)
           ∙ take-append-add (take have window) (part ++ behind) more
-          ∙ ap (λ (rest : List ℕ). take have window ++ rest) (take-append-le more part behind counts);
+          ∙ ap (λ (rest : List ℕ). take have window ++ rest)
+          (take-append-le more part behind counts);
       is_more = is_next ∙ ap (λ (size : ℕ). have + size) (sym long);
       inside =
           omega (

@@ -1,7 +1,22 @@
 -- How far a program has come that reads a recording in pieces, turn by turn. A turn is a call and,
 -- where the call needs bytes, a read. Every turn takes a field or reads a byte, but for the one
 -- that finds the end of the input. Definitions only. Assumes nothing.
-use Rattle.std.specs.Prelude.{◌≡◌, Bool, true, false, List, [], ◌++◌, ℕ, suc, ◌+◌, ◌-◌, ◌<◌, length, drop}
+use Rattle.std.specs.Prelude.{
+  ◌≡◌,
+  Bool,
+  true,
+  false,
+  List,
+  [],
+  ◌++◌,
+  ℕ,
+  suc,
+  ◌+◌,
+  ◌-◌,
+  ◌<◌,
+  length,
+  drop,
+}
 use Rattle.pieces.specs.declared.stop.Stop.TheVariants.{Hungry, Full}
 use Rattle.pieces.specs.Course.{Course}
 use Rattle.pieces.specs.AsCoded.Window.{Passed, window_run}

@@ -259,7 +259,8 @@ blocks_more places start count index some =
 module _ {wanted : Put} {out : List ℕ} {next : ℕ} {places : List ℕ} {start count index : ℕ}
     (left : BlocksLeft wanted out next places start count index) where
   pub blocks_less : {after : List ℕ} {next' : ℕ}
-      → Fits out next (blank ∷ decimal (get_or places ((start + index) % queue_places) 0)) after next'
+      → Fits out next (blank ∷ decimal (get_or places ((start + index) % queue_places) 0)) after
+      next'
       → index < count → BlocksLeft wanted after next' places start count (index + 1)
   blocks_less fits some =
       record {

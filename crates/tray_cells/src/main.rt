@@ -19,6 +19,7 @@ fn print_left<O: Write>(output: &mut O, tray: Tray, places: &[u16; 256], ram: &[
     let next = state::put_state(out, 0, tray, places);
     let end = cells::put_cells(out, next, memory);
     let text = &out[..];
+    // whether they were taken is not asked: nothing comes behind them
     output.write_all(&text[0..end]).is_ok();
 }
 

@@ -28,11 +28,13 @@ pub record Pumping (start : Tray) (tray : HeldTray) (pump : Pump)
 pub pumping_start : (tray : HeldTray) (places ram window out : List ℕ) → tray ≡ held_at_start
     → Buffers 0 window out
     → Pumping (tray_of held_at_start places ram) tray
-    (record { have = 0; ended = false; over = false; whole = false }) places ram window out all_turns
+    (record { have = 0; ended = false; over = false; whole = false }) places ram window out
+    all_turns
 pumping_start tray places ram window out is buffers =
     rw is
     (record {
-      pumping = general.pumping_start tray_course (tray_of held_at_start places ram) window out buffers;
+      pumping =
+          general.pumping_start tray_course (tray_of held_at_start places ram) window out buffers;
       ram_as_long = refl;
     })
 
@@ -50,9 +52,9 @@ module _ {start : Tray} (tray : HeldTray) (pump : Pump) (places ram window out :
       same_out =
       record {
         pumping =
-            general.pumping_on tray_course tray_is_steady (omega arith) (tray_of tray places ram) pump
-            window out left (passed_of ran places' ram' out') so_far.pumping is_ran next window'
-            some taken settled same_window same_out;
+            general.pumping_on tray_course tray_is_steady (omega arith) (tray_of tray places ram)
+            pump window out left (passed_of ran places' ram' out') so_far.pumping is_ran next
+            window' some taken settled same_window same_out;
         ram_as_long = same_ram ∙ so_far.ram_as_long;
       }
 
@@ -73,8 +75,8 @@ pub ruleset pumping = (pumping_start, pumping_on, pumping_over, pumping_spent, p
 
 -- over memory of zeros it is the start of a recording
 pub zero_memory : (new : Tray) (whole : Bool)
-    → Came tray_course (tray_of held_at_start (replicate queue_places 0) (replicate card_words 0)) new
-    whole
+    → Came tray_course (tray_of held_at_start (replicate queue_places 0) (replicate card_words 0))
+    new whole
     → Came tray_course tray_at_start new whole
 unfolding held_at_start tray_at_start
 zero_memory new whole came = came

@@ -17,5 +17,5 @@ whole_run_prints new came = general.whole_run_prints tray_course tray_is_steady 
 pub unread_is_untouched : {start new : Tray} {told : Bool} → Came tray_course start new told
     → new.seen.setup ≡ false → new ≡ start
 unread_is_untouched {start} came =
-    general.came_kept tray_course tray_is_steady (Untouched start) (untouched_kept start) (λ _. refl)
-    came
+    general.came_kept tray_course tray_is_steady (Untouched start) (untouched_kept start)
+    (λ _. refl) came

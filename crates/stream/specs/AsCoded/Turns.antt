@@ -1,6 +1,23 @@
 -- A turn of a program that reads a recording in pieces and writes its lines: what a call leaves to
 -- do. Definitions only. Assumes nothing.
-use Rattle.std.specs.Prelude.{◌≡◌, ◌≢◌, Bool, true, false, List, ◌++◌, ℕ, ◌+◌, ◌≤◌, eqb, ℤ, pos, negsuc, length, take}
+use Rattle.std.specs.Prelude.{
+  ◌≡◌,
+  ◌≢◌,
+  Bool,
+  true,
+  false,
+  List,
+  ◌++◌,
+  ℕ,
+  ◌+◌,
+  ◌≤◌,
+  eqb,
+  ℤ,
+  pos,
+  negsuc,
+  length,
+  take,
+}
 use Rattle.lines.specs.Written.{put}
 use Rattle.pieces.specs.declared.stop.Stop.{Stop}
 use Rattle.pieces.specs.declared.stop.Stop.TheVariants.{Hungry, Over}

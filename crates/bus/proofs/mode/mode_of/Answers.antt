@@ -3,7 +3,42 @@ use Rattle.std.proofs.Common.{◌≤◌, ◌∙◌, arith}
 use Rattle.bus.specs.Mode.{mode_table, mode_of}
 use Rattle.bus.proofs.ModeLaws.{row_at, past_the_table}
 use Rattle.bus.proofs.mode.mode_of.Goals as goal
-use Rattle.bus.proofs.mode.mode_of.Goals.{in-0, in-1, in-2, in-3, in-4, in-5, in-6, in-7, in-8, in-9, in-10, in-11, in-12, in-13, in-14, in-15, in-16, in-17, in-18, in-19, in-20, in-21, in-22, in-23, in-24, in-25, in-26, in-27, in-28, in-29, in-30, in-31, in_default, in_default-code}
+use Rattle.bus.proofs.mode.mode_of.Goals.{
+  in-0,
+  in-1,
+  in-2,
+  in-3,
+  in-4,
+  in-5,
+  in-6,
+  in-7,
+  in-8,
+  in-9,
+  in-10,
+  in-11,
+  in-12,
+  in-13,
+  in-14,
+  in-15,
+  in-16,
+  in-17,
+  in-18,
+  in-19,
+  in-20,
+  in-21,
+  in-22,
+  in-23,
+  in-24,
+  in-25,
+  in-26,
+  in-27,
+  in-28,
+  in-29,
+  in-30,
+  in-31,
+  in_default,
+  in_default-code,
+}
 
 -- codes 0 to 15, and none that is left
 pub returns-then-code-le15 : goal.returns-then-code-le15

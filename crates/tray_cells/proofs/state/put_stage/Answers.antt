@@ -7,10 +7,12 @@ pub returns-in-Data : goal.returns-in-Data
 returns-in-Data c = search (rules, stage_data, stage_second, stage_awaiting, stage_skipping)
 
 pub returns-in-SecondCommand : goal.returns-in-SecondCommand
-returns-in-SecondCommand c = search (rules, stage_data, stage_second, stage_awaiting, stage_skipping)
+returns-in-SecondCommand c =
+    search (rules, stage_data, stage_second, stage_awaiting, stage_skipping)
 
 pub returns-in-AwaitingStatus : goal.returns-in-AwaitingStatus
-returns-in-AwaitingStatus c = search (rules, stage_data, stage_second, stage_awaiting, stage_skipping)
+returns-in-AwaitingStatus c =
+    search (rules, stage_data, stage_second, stage_awaiting, stage_skipping)
 
 pub returns-in-Skipping : goal.returns-in-Skipping
 returns-in-Skipping c = search (rules, stage_data, stage_second, stage_awaiting, stage_skipping)
