@@ -6,7 +6,7 @@ ghost use Rattle.card.specs.Memory.{the_block, with_cell, with_service};
 use crate::place::{BLOCK_CELLS, Cell};
 
 // Stores a word in a cell. A cell past the block's, or past what was lent, is not there.
-#[tactic(auto, using(crate::proofs::MemoryLaws::alone), unfolding(crate::specs::Memory::with_cell))]
+#[tactic(auto, unfolding(crate::specs::Memory::with_cell))]
 pub fn store(cells: &mut [u16], cell: Cell, word: u16)
     ensures { cells.new ≡ with_cell cells.old (the_block 0) cell word }
 {

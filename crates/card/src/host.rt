@@ -11,6 +11,7 @@ use refusals::Refusal;
 pub const MOST_WRITTEN: usize = 64;
 
 // Stores the words from an address on, as far as memory goes.
+#[tactic(auto, using(crate::proofs::HostLaws::copied))]
 pub fn write_words(ram: &mut [u16], address: u16, words: &[u16])
     ensures { ram.new ≡ sets ram.old address words.now }
 {

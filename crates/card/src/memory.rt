@@ -24,6 +24,7 @@ fn cells_of(ram: &[u16], block: Block) -> Range<usize>
     start..(start + BLOCK_CELLS).min(ram.len())
 }
 
+#[tactic(auto, using(crate::proofs::LentBlock::lent_cell))]
 pub fn write_cell(ram: &mut [u16], block: Block, cell: Cell, word: u16)
     ensures { ram.new ≡ with_cell ram.old block cell word }
 {
@@ -31,6 +32,7 @@ pub fn write_cell(ram: &mut [u16], block: Block, cell: Cell, word: u16)
     block::store(&mut ram[lent.start..lent.end], cell, word);
 }
 
+#[tactic(auto, using(crate::proofs::LentBlock::lent_service))]
 pub fn write_service(ram: &mut [u16], block: Block, state: u16, closing: u32, ticks: u16)
     ensures { ram.new ≡ with_service ram.old block state closing ticks }
 {

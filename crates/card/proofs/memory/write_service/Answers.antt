@@ -1,8 +1,0 @@
--- `card::memory::write_service` meets its contract: what the lent block was given, memory has.
--- Assumes nothing.
-use Rattle.std.proofs.Common.{rules}
-use Rattle.card.proofs.LentBlock.{lent_service}
-use Rattle.card.proofs.memory.write_service.Goals as goal
-
-pub returns : goal.returns
-returns c = search (rules, lent_service)
