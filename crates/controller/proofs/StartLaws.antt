@@ -5,13 +5,13 @@ use mathlib.Core.List.{List}
 use Prim.Native.Nat.{ℕ, ◌≤◌}
 use lib.Dec.{leb}
 use borrow.Author.Tests.{leb-true, not-true, not-false}
+use Rattle.std.proofs.Common.{Option, Some, None}
 use Rattle.rules.proofs.Halves.{second_of_both}
 use Rattle.card.specs.declared.place.Block.{Block}
 use Rattle.card.specs.Memory.{the_cell, cell_at}
 use Rattle.formats.specs.declared.row.Row.{Row}
 use Rattle.formats.specs.declared.row.Format.{Format}
 use Rattle.formats.specs.declared.code.Coded.{Coded}
-use Rattle.formats.specs.declared.code.Coded.TheVariants as coded
 use Rattle.formats.specs.Code.{coded_by}
 use Rattle.exchange.specs.declared.order.Order.{Order}
 use Rattle.exchange.specs.Order.{format_for}
@@ -54,9 +54,9 @@ module _ (state : Controller) (ram : List ℕ) (idle : Bool)
           (second_of_both (state.due && idle) (leb 1 state.count)
           (not-false (state.due && idle && leb 1 state.count) may))
 
-      module _ (code : ℕ) (found : Coded) (is_code : code ≡ code_in state.control)
+      module _ (code : ℕ) (found : Option Coded) (is_code : code ≡ code_in state.control)
           (is_coded : found ≡ coded_by code) where
-        pub table_lacks : found ≡ coded.Lacking
+        pub table_lacks : found ≡ None
             → started_as 14 Nothing (desk state ram) ≡ start_step (desk state ram)
         unfolding start_step starting_by
         table_lacks lacks =
@@ -68,15 +68,14 @@ module _ (state : Controller) (ram : List ℕ) (idle : Bool)
               lacks,
             )
 
-        pub words_given_lem : (row : Row) (broadcast : Bool) (order : Order) (format : Format)
+        pub words_given_lem : (coded : Coded) (order : Order) (format : Format)
             (block : Block) (new : Controller)
-            → found ≡ coded.Format row broadcast
-            → order ≡ order_in row broadcast (desk state ram) → format ≡ format_for order
+            → found ≡ Some coded
+            → order ≡ order_in coded.row coded.broadcast (desk state ram) → format ≡ format_for order
             → block ≡ block_in state.control → new ≡ with_order order state
             → started_as 0 (Words block format.given) (desk new ram) ≡ start_step (desk state ram)
         unfolding start_step starting_by starting
-        words_given_lem row broadcast order format block new has is_order is_format is_Block
-            is_new =
+        words_given_lem coded order format block new has is_order is_format is_Block is_new =
             rw (
               ← is_idle_lem,
               not-false (state.due && idle && leb 1 state.count) may,

@@ -9,7 +9,6 @@ use card::memory;
 use card::place::{Block, Cell};
 use exchange::order::Order;
 use formats::code;
-use formats::code::Coded;
 use formats::row::Row;
 
 // What a start gives: words are named by their block and count, and shown as a part of the memory.
@@ -73,15 +72,14 @@ impl Controller {
                 controller: self,
             };
         }
-        let coded = code::coded_by(control::code(self.control));
-        let Coded::Format { row, broadcast } = coded else {
+        let Some(coded) = code::coded_by(control::code(self.control)) else {
             return Started {
                 refusal: 14,
                 given: Given::Nothing,
                 controller: self,
             };
         };
-        let order = self.order_in(ram, row, broadcast);
+        let order = self.order_in(ram, coded.row, coded.broadcast);
         let format = order.format();
         Started {
             refusal: 0,
