@@ -12,6 +12,7 @@ pub struct State {
     pub broadcast: bool,
     pub second: bool,
     pub busy: bool,
+    // any number, since a caller may hand in any
     pub code: u16,
     pub words: u16,
 }

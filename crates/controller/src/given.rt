@@ -1,5 +1,5 @@
 // The words to give: the part of the memory that starts at their block's cell 0, a command and 32
-// words at the most.
+// words at the most. `part` is the one function of every such part; these two name the numbers.
 ghost use Rattle.std.specs.Prelude.{◌≡◌, length};
 ghost use Rattle.refusals.specs.Number.{refusal_in};
 ghost use Rattle.controller.specs.Given.{given_refusal, given_part};
