@@ -18,6 +18,7 @@ pub struct State {
 
 impl State {
     // The code has three bits and the words have six.
+    #[tactic(auto, unfolding(crate::specs::StateWord::state_word))]
     pub fn word(self) -> u16
         ensures { result ≡ state_word self }
     {
