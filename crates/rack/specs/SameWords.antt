@@ -1,7 +1,6 @@
 -- The same words at both ends: what a message of fit commands leaves on a sound bus, and a run of
 -- them. Definitions only; proved in `proofs/Theorems`. Assumes nothing.
-use Rattle.std.specs.Prelude.{◌≡◌, List, ℕ, zero, suc, ◌+◌, ◌<◌, length}
-use Rattle.std.proofs.Math.Option.{Option, some, none}
+use Rattle.std.specs.Prelude.{◌≡◌, List, ℕ, zero, suc, ◌+◌, ◌<◌, length, None, Option, Some}
 use Rattle.card.specs.Memory.{the_cell, cell_at}
 use Rattle.terminal.specs.State.{Card}
 use Rattle.formats.specs.Row.{data_cell, data_words}
@@ -32,8 +31,8 @@ SameWords order desk ram command old new =
 -- a terminal that takes a command is idle again with the same words, and no other cell has changed;
 -- any other terminal is as before
 abbrev pub Served : Order → Desk → List ℕ → Option ℕ → Card → Card → Type 0
-Served order desk ram none old new = new ≡ old
-Served order desk ram (some command) old new =
+Served order desk ram None old new = new ≡ old
+Served order desk ram (Some command) old new =
     IsIdle new × SameWords order desk ram command old new × ChangesOnly command old new
 
 -- a result with this code
