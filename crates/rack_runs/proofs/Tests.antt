@@ -3,11 +3,11 @@
 use mathlib.Core.Path.{◌≡◌, refl}
 use mathlib.Core.Bool.{Bool, true, false, cond, not, ◌&&◌, ◌||◌}
 use mathlib.Core.List.{List, [], ◌∷◌}
-use mathlib.Core.Option.{Option, some, none}
 use Prim.Native.Nat.{ℕ}
 use lib.Dec.{eqb}
 use lib.ListN.{length}
 use borrow.Author.Tests.{eqb-true, eqb-false, not-true}
+use Rattle.std.proofs.Common.{Option, Some, None}
 use Rattle.rules.proofs.Clash.{clash}
 use Rattle.rules.proofs.Halves.{first_of_both, second_of_both}
 use Rattle.bus.specs.Command.{address_of}
@@ -72,8 +72,8 @@ idle_card old passed =
 -- ---- ready for the command that it takes
 
 unfoldable pub is_ready : Bool → Option ℕ → Card → Bool
-is_ready line none old = true
-is_ready line (some command) old =
+is_ready line None old = true
+is_ready line (Some command) old =
     not (opened_for command old).busy
     && (not (eqb (opened_for command old).block.0 (opened_for command old).table.0)
     && not (cond line old.core.shut.b old.core.shut.a))
@@ -81,8 +81,8 @@ is_ready line (some command) old =
 pub ready_card : (line : Bool) (command : Option ℕ) (old : Card) → is_ready line command old ≡ true
     → ReadyFor line command old
 unfolding is_ready
-ready_card line none old passed = tt
-ready_card line (some command) old passed =
+ready_card line None old passed = tt
+ready_card line (Some command) old passed =
     let busy : Bool = (opened_for command old).busy in
     let table : Bool =
     eqb (opened_for command old).block.0 (opened_for command old).table.0 in

@@ -4,9 +4,9 @@ use mathlib.Core.Path.{◌≡◌, ap, subst, ◌∙◌}
 use mathlib.Core.Logic.{◌≢◌}
 use mathlib.Core.Bool.{Bool}
 use mathlib.Core.List.{List, [], ◌∷◌}
-use mathlib.Core.Option.{Option}
 use Prim.Native.Nat.{ℕ}
 use lib.ListN.{length}
+use Rattle.std.proofs.Common.{Option}
 use Rattle.bus.specs.Command.{is_broadcast}
 use Rattle.message.specs.declared.state.Second.{Second}
 use Rattle.message.specs.Asked.{asked_of}

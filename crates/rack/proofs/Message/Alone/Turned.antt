@@ -3,9 +3,9 @@
 use mathlib.Core.Path.{◌≡◌, refl, ap, sym, subst, ◌∙◌}
 use mathlib.Core.Bool.{Bool, true, false, cond}
 use mathlib.Core.List.{List}
-use mathlib.Core.Option.{some, none}
 use Prim.Native.Nat.{ℕ}
 use lib.ListN.{length}
+use Rattle.std.proofs.Common.{Some, None}
 use Rattle.rules.proofs.Clash.{clash}
 use Rattle.bus.specs.Command.{address_of, is_broadcast}
 use Rattle.message.specs.declared.state.Second.TheVariants.{Absent}
@@ -37,7 +37,7 @@ module _ (line : Bool) (stamps : Stamps) (first : ℕ) (words : List ℕ) where
   turned fit full old idle ready = by_own (is_own first old) refl ready
     where
       by_own : (own : Bool) → is_own first old ≡ own
-          → ReadyFor line (cond own (some first) none) old → Turned old
+          → ReadyFor line (cond own (Some first) None) old → Turned old
       by_own true own ready =
           took own (command_is_taken line stamps first words old fit full idle own ready)
       by_own false strange ready =

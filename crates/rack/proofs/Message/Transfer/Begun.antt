@@ -3,8 +3,8 @@
 use mathlib.Core.Path.{◌≡◌, refl, ap, ◌∙◌}
 use mathlib.Core.Bool.{Bool, true, false, cond}
 use mathlib.Core.List.{[]}
-use mathlib.Core.Option.{some, none}
 use Prim.Native.Nat.{ℕ}
+use Rattle.std.proofs.Common.{Some, None}
 use Rattle.rules.proofs.Clash.{clash}
 use Rattle.bus.specs.Command.{address_of, is_broadcast}
 use Rattle.message.specs.declared.state.Second.TheVariants.{Command}
@@ -39,7 +39,7 @@ module _ (line : Bool) (stamps : Stamps) (first second : ℕ) where
     where
       by_own : (own_second : Bool) → is_own second old ≡ own_second
           → (own_IsFirst : Bool) → is_own first old ≡ own_IsFirst
-          → ReadyFor line (cond own_second (some second) (cond own_IsFirst (some first) none)) old
+          → ReadyFor line (cond own_second (Some second) (cond own_IsFirst (Some first) None)) old
           → Begun old
       by_own true own own_IsFirst is ready =
           sends own (transmitter_took line stamps first second fit old idle own ready)

@@ -3,10 +3,10 @@
 use mathlib.Core.Path.{◌≡◌, refl, ap, subst, ◌∙◌}
 use mathlib.Core.Bool.{Bool}
 use mathlib.Core.List.{List, [], ◌∷◌}
-use mathlib.Core.Option.{Option}
 use Prim.Native.Nat.{ℕ, suc}
 use native.Mathlib.Omega.{arith}
 use lib.ListN.{drop_of_length-le}
+use Rattle.std.proofs.Common.{Option}
 use Rattle.bus.specs.Command.{address_of, is_broadcast}
 use Rattle.message.specs.declared.state.Second.{Second}
 use Rattle.message.specs.declared.state.Second.TheVariants.{Command}
