@@ -7,6 +7,7 @@
 --     Clash         what cannot be, since two constructors differ
 --     LentPart      what a store to a lent part is to the whole
 --     Determined    what it means that a contract allows one outcome alone
+--     Tabulated     a table whose rule is computed once
 --     LastArm       what the last arm of a `match` on a number knows
 pub mod Cases
 pub mod Choices
@@ -16,4 +17,5 @@ pub mod Halves
 pub mod Clash
 pub mod LentPart
 pub mod Determined
+pub mod Tabulated
 pub mod LastArm

@@ -6,15 +6,15 @@
 use crate::notation;
 use actions::Terminal;
 use card::place::Block;
-use message::state::{Message, OpenMessage, Second, Stage};
+use message::state::{OpenMessage, Stage};
 use queue::{Queue, Ring};
 use terminal::state::{Core, Shut};
 
-fn second_of(command: u16) -> Second {
+fn second_of(command: u16) -> Option<u16> {
     if command == 0 {
-        return Second::Absent;
+        return None;
     }
-    Second::Command(command)
+    Some(command)
 }
 
 fn stage_of(number: u16) -> Stage {
@@ -42,11 +42,11 @@ fn open_message(row: &[u8]) -> OpenMessage {
     }
 }
 
-fn message_of(row: &[u8]) -> Message {
+fn message_of(row: &[u8]) -> Option<OpenMessage> {
     if notation::word_in(row, 15) == 0 {
-        return Message::Idle;
+        return None;
     }
-    Message::Open(open_message(row))
+    Some(open_message(row))
 }
 
 fn core_of(row: &[u8]) -> Core {

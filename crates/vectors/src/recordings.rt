@@ -2,7 +2,7 @@
 // compared.
 use crate::notation;
 use check;
-use message::state::{Message, Stage};
+use message::state::{OpenMessage, Stage};
 use queue::Ring;
 use terminal::state::{Core, Held};
 use tray;
@@ -32,10 +32,10 @@ fn number_of(stage: Stage) -> u8 {
     }
 }
 
-fn put_message(out: &mut [u8], at: usize, message: Message) -> usize {
+fn put_message(out: &mut [u8], at: usize, message: Option<OpenMessage>) -> usize {
     match message {
-        Message::Idle => at,
-        Message::Open(open) => {
+        None => at,
+        Some(open) => {
             let stage = open.stage;
             let next = notation::put_pair(out, at, open.command, open.block.0);
             notation::put_byte(out, next, number_of(stage) | weigh(open.moved, 128))
