@@ -8,9 +8,9 @@
 //     1  a word 2C61: its marks    2  silence: line    3  host write: address, count of words
 //     4  queue read                5  table block      6  flags
 //     7  words to send: block, count
+use crate::notation::Bytes;
 use crate::{given, notation, recordings};
 use actions::Terminal;
-use arrayvec::ArrayVec;
 use card::place::{Block, CARD_BLOCKS};
 use card::sent;
 
@@ -19,9 +19,6 @@ const GIVEN: u16 = 0x1234;
 
 // The refusal of an action that left something wrong.
 const WRONG: u8 = 255;
-
-// The bytes of a case that is a call.
-const CASE_BYTES: usize = 4096;
 
 // ---- the actions
 
@@ -123,10 +120,10 @@ fn perform(action: Action, terminal: &mut Terminal, ram: &mut [u16]) -> u8 {
 
 // ---- the cases
 
-// What a call leaves, over as much of a RAM as the row says; nothing where there is not so much.
-fn put_call<const N: usize>(out: &mut ArrayVec<u8, N>, row: &[u8]) {
-    let row = notation::words_of(row);
-    let [action, first, second, size, ..] = row;
+// What a call leaves, over as much of a RAM as the row says.
+fn put_call(out: &mut Bytes, given: &[u8]) {
+    let row = notation::row_of(given);
+    let [action, first, second, size, _, _, _, _, _, place, ..] = row;
     let mut cells = [GIVEN; 16385];
     let Some(ram) = cells.get_mut(..usize::from(size)) else {
         return;
@@ -134,24 +131,19 @@ fn put_call<const N: usize>(out: &mut ArrayVec<u8, N>, row: &[u8]) {
     let mut terminal = given::terminal_of(row);
     let refusal = perform(action_of(action, first, second), &mut terminal, ram);
     let Terminal { core, queue } = terminal;
-    notation::put_byte(out, refusal);
-    notation::put_words(out, &[core.station, core.table.0, core.flags, queue.ring.start]);
+    notation::put_bytes(out, &[refusal]);
+    notation::put_words(
+        out,
+        &[core.station, core.table.0, core.flags, queue.ring.start],
+    );
     recordings::put_state(out, core, queue.ring);
-    let [_, _, _, _, _, _, _, _, _, place, ..] = row;
     notation::put_others(out, &queue.places, place);
     notation::put_others(out, ram, GIVEN);
 }
 
 // Whether a case comes out as it should, behind what its group begins with.
 pub(crate) fn holds(before: &[u8], case: &[u8]) -> bool {
-    let (text, rest) = notation::cut(case, b'=');
+    let (row, rest) = notation::cut(case, b'=');
     let (state, _remark) = notation::cut(rest, b'#');
-    let mut row = ArrayVec::<u8, CASE_BYTES>::new();
-    notation::put_hex(&mut row, before);
-    notation::put_hex(&mut row, text);
-    let mut wanted = ArrayVec::<u8, CASE_BYTES>::new();
-    notation::put_hex(&mut wanted, state);
-    let mut left = ArrayVec::<u8, CASE_BYTES>::new();
-    put_call(&mut left, row.as_slice());
-    left.as_slice() == wanted.as_slice()
+    notation::leaves(before, row, b"", state, put_call)
 }

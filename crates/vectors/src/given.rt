@@ -3,7 +3,7 @@
 // block and words taken, the second command (0 for none), the stage (0 for nothing open). Words
 // that the row has not are 0. Status and last command hold what no message makes, and all marks are
 // set.
-use crate::notation::COLUMNS;
+use crate::notation::Row;
 use actions::Terminal;
 use card::place::Block;
 use message::state::{Message, OpenMessage, Second, Stage};
@@ -27,7 +27,7 @@ fn stage_of(number: u16) -> Option<Stage> {
     }
 }
 
-pub(crate) fn terminal_of(row: [u16; COLUMNS]) -> Terminal {
+pub(crate) fn terminal_of(row: Row) -> Terminal {
     let [_, _, _, _, station, table, flags, start, count, place, ..] = row;
     let [.., command, block, opened_table, taken, second, stage] = row;
     let message = match stage_of(stage) {

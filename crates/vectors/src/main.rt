@@ -19,6 +19,7 @@ use std::io::Read;
 const TEXT_BYTES: u64 = 524288;
 
 fn main(rt: HostRuntime) -> io::Result<()> {
+    // the one thing that is on the heap
     let mut text = Vec::new(rt.alloc());
     rt.stdin().take(TEXT_BYTES).read_to_end(&mut text)?;
     let mut output = rt.stdout();

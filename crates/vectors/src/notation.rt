@@ -27,8 +27,14 @@
 use arrayvec::ArrayVec;
 use std::{array, iter};
 
-// The words of a call's row.
-pub(crate) const COLUMNS: usize = 16;
+// The bytes of a case, at the most.
+pub(crate) const CASE_BYTES: usize = 65536;
+
+// What a case gives, or what it leaves; what has no room is cut.
+pub(crate) type Bytes = ArrayVec<u8, CASE_BYTES>;
+
+// The words of a call.
+pub(crate) type Row = [u16; 16];
 
 // A text before and behind the first such byte: all of it and nothing, where there is none.
 pub(crate) fn cut(text: &[u8], byte: u8) -> (&[u8], &[u8]) {
@@ -40,26 +46,19 @@ pub(crate) fn cut(text: &[u8], byte: u8) -> (&[u8], &[u8]) {
 
 // ---- what is left
 
-// Puts a byte, if there is room.
-pub(crate) fn put_byte<const N: usize>(out: &mut ArrayVec<u8, N>, byte: u8) {
-    let _ = out.try_push(byte);
-}
-
-pub(crate) fn put_bytes<const N: usize>(out: &mut ArrayVec<u8, N>, bytes: &[u8]) {
-    for &byte in bytes {
-        put_byte(out, byte);
-    }
+pub(crate) fn put_bytes(out: &mut Bytes, bytes: &[u8]) {
+    let _ = out.try_extend_from_slice(bytes);
 }
 
 // Puts words, high byte first.
-pub(crate) fn put_words<const N: usize>(out: &mut ArrayVec<u8, N>, words: &[u16]) {
+pub(crate) fn put_words(out: &mut Bytes, words: &[u16]) {
     for word in words {
         put_bytes(out, &word.to_be_bytes());
     }
 }
 
 // Every word that is not the given one, behind its place.
-pub(crate) fn put_others<const N: usize>(out: &mut ArrayVec<u8, N>, words: &[u16], given: u16) {
+pub(crate) fn put_others(out: &mut Bytes, words: &[u16], given: u16) {
     for (place, &word) in (0..=u16::MAX).zip(words) {
         if word != given {
             put_words(out, &[place, word]);
@@ -69,7 +68,7 @@ pub(crate) fn put_others<const N: usize>(out: &mut ArrayVec<u8, N>, words: &[u16
 
 // ---- hex
 
-// What a byte is as a digit; in small letters there are remarks.
+// A digit's number.
 fn digit(byte: u8) -> Option<u8> {
     match byte {
         b'0'..=b'9' => Some(byte - b'0'),
@@ -79,23 +78,44 @@ fn digit(byte: u8) -> Option<u8> {
 }
 
 // Puts the bytes that a text's hex digits spell, two by two; every other byte is for the eye.
-pub(crate) fn put_hex<const N: usize>(out: &mut ArrayVec<u8, N>, text: &[u8]) {
-    let mut high = None;
+pub(crate) fn put_hex(out: &mut Bytes, text: &[u8]) {
+    let mut high: Option<u8> = None;
     for low in text.iter().filter_map(|&byte| digit(byte)) {
-        high = match high {
-            None => Some(low),
-            Some(high) => {
-                put_byte(out, high << 4 | low);
-                None
-            }
-        };
+        match high.take() {
+            None => high = Some(low),
+            Some(high) => put_bytes(out, &[high << 4 | low]),
+        }
     }
 }
 
 // ---- rows
 
-// The words of a row of bytes, high byte first, 0 where the row has no such byte.
-pub(crate) fn words_of(row: &[u8]) -> [u16; COLUMNS] {
-    let mut bytes = row.iter().copied().chain(iter::repeat(0));
+// The words of a call's bytes, high byte first, 0 where it has no such byte.
+pub(crate) fn row_of(bytes: &[u8]) -> Row {
+    let mut bytes = bytes.iter().copied().chain(iter::repeat(0));
     array::from_fn(|_| u16::from_be_bytes([bytes.next().unwrap_or(0), bytes.next().unwrap_or(0)]))
+}
+
+// ---- a case
+
+// Whether a case leaves what it should. Given are the bytes that its text spells, behind those that
+// its group begins with; it must leave the lines and then the bytes that the state spells. One that
+// cannot be run leaves nothing.
+pub(crate) fn leaves<F: Fn(&mut Bytes, &[u8])>(
+    before: &[u8],
+    text: &[u8],
+    lines: &[u8],
+    state: &[u8],
+    put_left: F,
+) -> bool
+    requires { F.IsAlwaysCallable put_left }
+{
+    let mut bytes = Bytes::new();
+    put_hex(&mut bytes, before);
+    put_hex(&mut bytes, text);
+    let mut left = Bytes::new();
+    put_left(&mut left, bytes.as_slice());
+    let given = bytes.len();
+    put_hex(&mut bytes, state);
+    !left.is_empty() && left.as_slice().strip_prefix(lines) == bytes.as_slice().get(given..)
 }

@@ -1,15 +1,12 @@
 // Runs a case that is a recording: the printed lines, the state and the whole of the card are
 // compared.
 use crate::notation;
-use arrayvec::ArrayVec;
+use crate::notation::{Bytes, CASE_BYTES};
 use message::state::{Message, Stage};
 use queue::Ring;
 use terminal::state::Core;
 use tray;
 use tray::Tray;
-
-// The bytes of a case that is a recording.
-const CASE_BYTES: usize = 65536;
 
 // ---- what a run leaves, in the bytes of the notation
 
@@ -29,20 +26,21 @@ fn number_of(stage: Stage) -> u8 {
     }
 }
 
-pub(crate) fn put_state<const N: usize>(out: &mut ArrayVec<u8, N>, core: Core, ring: Ring) {
+pub(crate) fn put_state(out: &mut Bytes, core: Core, ring: Ring) {
     notation::put_words(out, &[core.status, core.last]);
     let [_, waiting] = ring.count.to_be_bytes();
     notation::put_bytes(out, &[marks_of(core, ring), waiting]);
     if let Message::Open(open) = core.message {
         notation::put_words(out, &[open.command, open.block.0]);
-        notation::put_byte(out, number_of(open.stage) | u8::from(open.moved) << 7);
+        let moved = u8::from(open.moved) << 7;
+        notation::put_bytes(out, &[number_of(open.stage) | moved]);
     }
 }
 
 // ---- a case
 
-// What a recording prints and leaves on a new card.
-fn put_run<const N: usize>(out: &mut ArrayVec<u8, N>, recording: &[u8]) {
+// What a recording prints, and leaves on a new card.
+fn put_run(out: &mut Bytes, recording: &[u8]) {
     let mut places = [0; 256];
     let mut ram = [0; 16384];
     let mut lines = [0; CASE_BYTES];
@@ -54,8 +52,9 @@ fn put_run<const N: usize>(out: &mut ArrayVec<u8, N>, recording: &[u8]) {
         &mut lines,
         true,
     );
+    let held = passed.tray.held;
     notation::put_bytes(out, lines.get(..passed.put).unwrap_or(&[]));
-    put_state(out, passed.tray.held.core, passed.tray.held.ring);
+    put_state(out, held.core, held.ring);
     notation::put_others(out, &ram, 0);
 }
 
@@ -65,13 +64,5 @@ pub(crate) fn holds(before: &[u8], case: &[u8]) -> bool {
     let (text, rest) = notation::cut(rest, b'>');
     let (_, rest) = notation::cut(rest, b'\n');
     let (lines, state) = notation::cut(rest, b'=');
-    let mut recording = ArrayVec::<u8, CASE_BYTES>::new();
-    notation::put_hex(&mut recording, before);
-    notation::put_hex(&mut recording, text);
-    let mut wanted = ArrayVec::<u8, CASE_BYTES>::new();
-    notation::put_bytes(&mut wanted, lines);
-    notation::put_hex(&mut wanted, state);
-    let mut left = ArrayVec::<u8, CASE_BYTES>::new();
-    put_run(&mut left, recording.as_slice());
-    left.as_slice() == wanted.as_slice()
+    notation::leaves(before, text, lines, state, put_run)
 }

@@ -1,8 +1,7 @@
 // What the program prints, and the count of cases.
-use std::fmt;
-use std::io;
 use std::io::Write;
 use std::ops::AddAssign;
+use std::{fmt, io};
 
 // How many cases were tried, and how many came out as they should.
 #[derive(Clone, Copy, Default)]
