@@ -44,7 +44,7 @@ impl Score {
     }
 
     // The line of a group, as `rules 31 of 31`.
-    pub(crate) fn print<O: Write>(self, output: &mut O, name: &[u8]) -> io::Result<()> {
+    pub(crate) fn print<O: Write>(&self, output: &mut O, name: &[u8]) -> io::Result<()> {
         output.write_all(name)?;
         writeln!(output, " {self}")
     }
