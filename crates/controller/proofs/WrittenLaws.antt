@@ -85,7 +85,8 @@ module _ (word : Word) (old : Desk) (message : OpenMessage)
       by_test (BehindGiven message.order) (not word.sound) (λ is. not_taken) (λ is. not_taken)
   in_progress (Some so_far) = stored_behind_given message.order so_far word
 
-met_writes : (word : Word) (old : Desk) (message : Option OpenMessage) → old.state.message ≡ message
+met_writes : (word : Word) (old : Desk) (message : Option OpenMessage)
+    → old.state.message ≡ message
     → WritesOnlyBack old (word_met message word old).desk
 unfolding word_met
 met_writes word old None is = nothing_written old old refl

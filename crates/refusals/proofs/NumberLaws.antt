@@ -9,6 +9,9 @@ use Rattle.std.proofs.Common.{
   Option,
   Some,
   None,
+  Result,
+  Ok,
+  Err,
   refl,
   sym,
   ◌∙◌,
@@ -28,7 +31,7 @@ use Rattle.refusals.specs.declared.Refusal.TheVariants.{
   Room,
   Format,
 }
-use Rattle.refusals.specs.Number.{number_of, refusal_in}
+use Rattle.refusals.specs.Number.{number_of, refusal_in, refused, outcome_in}
 
 -- the refusal of a number
 abbrev refusal_of : ℕ → Option Refusal
@@ -58,3 +61,23 @@ told (Some refusal) = numbered refusal
 
 pub same_refusal : (one other : Option Refusal) → refusal_in one ≡ refusal_in other → one ≡ other
 same_refusal one other same = sym (told one) ∙ ap refusal_of same ∙ told other
+
+-- ---- an action that may give something back: its number and that tell what it answered
+
+-- the answer of a refusal and what is given back
+abbrev answer_of : {A : Type 0} → Option Refusal → Option A → Result (Option A) Refusal
+answer_of None outcome = Ok outcome
+answer_of (Some refusal) outcome = Err refusal
+
+answered : {A : Type 0} (answer : Result (Option A) Refusal)
+    → answer_of (refusal_of (refused answer)) (outcome_in answer) ≡ answer
+answered (Ok outcome) = refl
+answered (Err refusal) = ap (λ (any : Option Refusal). answer_of any None) (numbered refusal)
+
+pub same_answer : {A : Type 0} (one other : Result (Option A) Refusal)
+    → refused one ≡ refused other → outcome_in one ≡ outcome_in other → one ≡ other
+same_answer {A} one other same_number same_outcome =
+    sym (answered one)
+    ∙ ap (λ (any : ℕ). answer_of (refusal_of any) (outcome_in one)) same_number
+    ∙ ap (λ (any : Option A). answer_of (refusal_of (refused other)) any) same_outcome
+    ∙ answered other
