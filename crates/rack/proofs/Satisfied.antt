@@ -65,7 +65,7 @@ idle_9 =
     }
 
 starts : start_action start.desk ≡ starting order start.desk
-unfolding start start_action start_step starting_by coded_by code_table cell_at
+unfolding start start_action start_step coded_by code_table cell_at
 starts = refl
 
 ready_5 : Ready false 0x2862 (terminal_of 5)

@@ -31,7 +31,7 @@ use Rattle.rack.specs.Asked.{IsIdle, opened_for, Ready, Addressed}
 pub starts_by : (row : Row) (broadcast : Bool) (old : Desk) → whole_desk old ≡ true
     → may_start old.state ≡ true → coded_by (code_in old.state.control) ≡ Format row broadcast
     → start_action old ≡ starting (order_in row broadcast old) old
-unfolding start_action start_step starting_by
+unfolding start_action start_step
 starts_by row broadcast old whole may_start_lem coded = rw (whole, may_start_lem, coded)
 
 pub idle_by : {terminal : Card} → length terminal.ram ≡ card_words → fit_card terminal ≡ true

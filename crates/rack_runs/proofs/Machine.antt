@@ -76,7 +76,7 @@ fitness = 0
 -- ---- the controller
 
 starts : ℕ
-unfolding code_table coded_by format_of asking_in format_for desks.with_message with_order starting
+unfolding code_table coded_by format_of asking_in format_for desks.with_message with_order
     starting_by start_step start_action
 starts = 0
 

@@ -41,7 +41,7 @@ module _ (start : Desk) (order : Order) (taken : ℕ) (mark : Bool) (ram : List 
       → (silence_step (line_in start.state.control) (at (exchange_of Reply taken mark))).desk
       ≡ cond (format_for order).last (at (exchange_of AwaitingLast taken mark))
       (ended 0 mark (at (exchange_of Reply taken mark))).desk
-  unfolding silence_step silence_met silence_done silence_heard with_message
+  unfolding silence_step silence_heard with_message
   full_silence full =
       rw (
         beq_same (line_in start.state.control),
@@ -61,7 +61,7 @@ module _ (start : Desk) (order : Order) (taken : ℕ) (mark : Bool) (ram : List 
   last_silence :
       (silence_step (line_in start.state.control) (at (exchange_of Ended taken mark))).desk
       ≡ (ended 0 mark (at (exchange_of Ended taken mark))).desk
-  unfolding silence_step silence_met silence_done silence_heard with_message
+  unfolding silence_step silence_heard with_message
   last_silence = rw (beq_same (line_in start.state.control))
 
 -- ---- turns
@@ -70,7 +70,7 @@ module _ (order : Order) (old : Desk) where
   first_silence : (silence_step (line_in old.state.control) (open_desk order old)).desk
       ≡ cond (format_for order).status (back_at (open_desk order old) order at_first old.ram)
       (ended 0 false (open_desk order old)).desk
-  unfolding silence_step silence_met silence_done with_order with_message
+  unfolding silence_step with_order with_message
   first_silence =
       rw (beq_same (line_in old.state.control)) (by_status (format_for order).status)
     where
