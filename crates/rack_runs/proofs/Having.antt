@@ -20,7 +20,7 @@ use Rattle.formats.specs.declared.code.Coded.TheVariants.{Format}
 use Rattle.formats.specs.Code.{coded_by}
 use Rattle.controller.specs.Control.{code_in}
 use Rattle.controller.specs.State.{Desk}
-use Rattle.controller.specs.Start.{may_start, order_in, starting, starting_by, start_step}
+use Rattle.controller.specs.Start.{may_start, order_in, starting, start_step}
 use Rattle.controller.specs.Actions.{whole_desk, start_action}
 use Rattle.rack.specs.Terminals.{Each, EachOf, Different}
 use Rattle.rack.specs.Asked.{IsIdle, opened_for, Ready, Addressed}

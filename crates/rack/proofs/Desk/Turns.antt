@@ -24,7 +24,7 @@ use Rattle.exchange.specs.Judge.{exchange_of, at_first, is_marked, silence_heard
 use Rattle.controller.specs.Control.{block_in, line_in}
 use Rattle.controller.specs.State.{Desk, with_message}
 use Rattle.controller.specs.Start.{with_order}
-use Rattle.controller.specs.Heard.{words_step, ended, silence_done, silence_met, silence_step}
+use Rattle.controller.specs.Heard.{words_step, ended, silence_done, silence_step}
 use Rattle.rack.specs.Segment.{Segment, segment, Given, Said, data_words, at_desk}
 use Rattle.rack.specs.Hearing.{Stamps, desk_turn}
 use Rattle.rack.proofs.Desk.Starting.{open_desk}

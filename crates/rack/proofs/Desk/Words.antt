@@ -27,7 +27,7 @@ use Rattle.exchange.specs.Judge.{
 }
 use Rattle.controller.specs.Control.{block_in, line_in}
 use Rattle.controller.specs.State.{Desk, desk, open_back, with_message}
-use Rattle.controller.specs.Heard.{word_done, word_met, word_step, words_step}
+use Rattle.controller.specs.Heard.{word_step, words_step}
 use Rattle.controller.proofs.RowWords.{row_is_words}
 use Rattle.rack.specs.Segment.{segment, command_word, data_words, words_on}
 use Rattle.rack.proofs.Segments.{values_of_data, length_of_data, all_of_data}
