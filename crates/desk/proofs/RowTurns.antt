@@ -7,9 +7,6 @@ use Rattle.std.proofs.Common.{
   ℕ,
   ◌+◌,
   ◌-◌,
-  ◌*◌,
-  ◌%◌,
-  ◌^◌,
   ◌<◌,
   ◌≤◌,
   Bool,
@@ -38,7 +35,6 @@ use Rattle.recording.specs.Bytes.{bytes_left, time_at}
 use Rattle.recording.specs.AsCoded.Found.{word_found}
 use Rattle.recording.specs.Value.{valued_at}
 use Rattle.recording.proofs.FoundLaws.{found_is_read, found_whole, found_tag}
-use Rattle.controller.specs.declared.state.Controller.{Controller}
 use Rattle.controller.specs.declared.row.Wanted.{Wanted}
 use Rattle.controller.specs.State.{Desk, desk}
 use Rattle.controller.specs.Heard.{words_step}
@@ -112,30 +108,6 @@ desk_hears seen after_setup =
       wants_on = λ line more old heard wants is. still_wants line more old heard wants is;
     }
 
--- ---- the run behind a row, as the code makes it
-
-pub row_after : (old : HeldPassed) (before : ℕ) (taken : Taken) (controller : Controller)
-    (fields offset : ℕ)
-    → controller ≡ with_taken (before + taken.words) old.run.controller
-    → fields ≡ (old.run.fields + taken.words) % 2 ^ 64
-    → offset ≡ (old.run.offset + 10 * taken.words) % 2 ^ 64
-    → record {
-      run =
-          record {
-            controller = controller;
-            seen = old.run.seen;
-            fields = fields;
-            offset = offset;
-          };
-      at = taken.at;
-      put = old.put;
-      stop = old.stop;
-    }
-    ≡ passed_after old before taken
-unfolding passed_after
-row_after old before taken controller fields offset is_controller is_fields is_offset =
-    rw (is_controller, is_fields, is_offset)
-
 -- ---- a row is as many turns
 
 module _ (old : HeldPassed) (window ram ram' : List ℕ) (room most : ℕ) (wanted : Option Wanted)
@@ -187,9 +159,11 @@ module _ (old : HeldPassed) (window ram ram' : List ℕ) (room most : ℕ) (want
         ∙ ap (λ (any : Block). desk (with_taken (words.taken + length found) old.run.controller)
         (with_cells ram any words.cell (values_of found))) told.same_block
         ∙ wanted_row_is_words old.run.controller words told ram found
-        (found_are_data window words.line (words.end - words.cell) old.at) (found_few window words.line row old.at)
+        (found_are_data window words.line (words.end - words.cell) old.at)
+        (found_few window words.line row old.at)
 
-    behind_row : RowTaken window room most old ram taken.left (passed_after old words.taken taken) ram'
+    behind_row : RowTaken window room most old ram taken.left
+        (passed_after old words.taken taken) ram'
     unfolding passed_after
     behind_row =
         record {
