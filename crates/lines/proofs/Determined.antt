@@ -1,8 +1,12 @@
 -- Each public contract of the crate allows one outcome alone: one next place, and one content of
 -- every byte of the buffer. Assumes nothing.
+use mathlib.Core.List.{List}
+use Prim.Native.Nat.{ℕ}
 use Rattle.rules.proofs.Determined.{DeterminedAs, same}
 use Rattle.lines.specs.Page.{on}
 use Rattle.lines.specs.Written.{Put}
+use Rattle.lines.proofs.Page.written.Kinds as written_kinds
+use Rattle.lines.proofs.Page.written.Reads as written_reads
 use Rattle.lines.proofs.Page.status_line.Kinds as status_line_kinds
 use Rattle.lines.proofs.Page.status_line.Reads as status_line_reads
 use Rattle.lines.proofs.Page.queue_line.Kinds as queue_line_kinds
@@ -73,3 +77,8 @@ pub decimal :
     DeterminedAs 2 decimal_kinds.ps decimal_kinds.r decimal_reads.Post Put
     (λ κs result exit. on exit.0.now)
 decimal κs arguments result result' exit exit' is is' = same is.is_wanted is'.is_wanted
+
+pub written :
+    DeterminedAs 2 written_kinds.ps written_kinds.r written_reads.Post (List ℕ)
+    (λ κs result exit. result.now)
+written κs arguments result result' exit exit' = same

@@ -5,7 +5,7 @@
 // follow.
 #![tactic(auto)]
 
-ghost use Rattle.std.specs.Prelude.{length};
+ghost use Rattle.std.specs.Prelude.{◌≡◌, length, take};
 ghost use Rattle.lines.specs.Digits.{hex_byte, hex_word, decimal, decimal_places};
 ghost use Rattle.lines.specs.Lines.{
   queue_line,
@@ -36,6 +36,16 @@ pub const DECIMAL_PLACES: usize = 20;
 pub struct Page<'a> {
     pub out: &'a mut [u8],
     pub at: usize,
+}
+
+impl<'a> Page<'a> {
+    // What is written so far: the bytes before the place, or all where it lies past the end.
+    pub fn written(&self) -> &[u8]
+        ensures { result.now ≡ take self.now.at self.now.out.now }
+    {
+        let end = self.at.min(self.out.len());
+        &self.out[..end]
+    }
 }
 
 // ---- the lines of a tray run
