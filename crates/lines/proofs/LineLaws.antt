@@ -99,7 +99,7 @@ module _ (room : ℕ) (old : Page) (text : List ℕ) where
             ∙ sym (in_room room old.out.now old.at text (leb-true room (length old.out.now - old.at) (sym is ∙ some)));
       }
 
-nothing_written : (room : ℕ) (out : List ℕ) (at : ℕ) → put at out ≡ written room out at []
+pub nothing_written : (room : ℕ) (out : List ℕ) (at : ℕ) → put at out ≡ written room out at []
 unfolding written stored
 nothing_written room out at = rw (add-zero at, same_ways (leb room (length out - at)))
   where
@@ -108,9 +108,13 @@ nothing_written room out at = rw (add-zero at, same_ways (leb room (length out -
     same_ways false = refl
 
 -- of no bytes nothing is put
+pub nothing_left : (room : ℕ) (page : Page) → Leaves page page (written_on room page [])
+nothing_left room page =
+    record { same_buffer = refl; is_wanted = nothing_written room page.out.now page.at }
+
 pub no_bytes : (room : ℕ) (old : Page) (text : List ℕ) (answer : Bool)
     → answer ≡ eqb (length text) 0 → answer ≡ true → Leaves old old (written_on room old text)
-no_bytes room old [] answer is none = record { same_buffer = refl; is_wanted = nothing_written room old.out.now old.at }
+no_bytes room old [] answer is none = nothing_left room old
 no_bytes room old (byte ∷ text) answer is none =
     absurd (omega (arith, eqb-true (length (byte ∷ text)) 0 (sym is ∙ none)))
 

@@ -17,17 +17,6 @@ use Rattle.lines.proofs.Lengths.{length_end_line, length_refusal_line}
 use Rattle.lines.proofs.WrittenLaws.{in_room, out_of_room}
 use Rattle.pieces.specs.LastLine.{last_line}
 
--- nothing is written of no text
-pub nothing_written : (out : List ℕ) (at : ℕ) → put at out ≡ line_written out at []
-unfolding stored
-nothing_written out at =
-    elim (dec_le line_room (length out - at)) [
-      | yes enough ↦
-          let same : at + 0 ≡ at = omega arith in
-          rw (in_room line_room out at [] enough, same)
-      | no short ↦ rw (out_of_room line_room out at [] (omega arith))
-    ]
-
 -- ---- as it is printed
 
 module _ (old new : Page) (number fields offset : ℕ) where
