@@ -1,11 +1,11 @@
--- `controller_cells::state::put_result` meets its contract, with a result and without. Assumes
--- nothing.
-use borrow.Author.Rules.{rules}
+-- `controller_cells::state::put_result` meets its contract, by its cases. Assumes nothing.
+use Rattle.std.proofs.Common.{rules}
+use Rattle.shown.proofs.TextLaws.{fits_then}
 use Rattle.controller_cells.proofs.StateLaws.{result_none, result_came}
 use Rattle.controller_cells.proofs.state.put_result.Goals as goal
 
 pub returns-in-Absent : goal.returns-in-Absent
-returns-in-Absent c = search (rules, result_none, result_came)
+returns-in-Absent c = search (rules, result_none)
 
 pub returns-in-Came : goal.returns-in-Came
-returns-in-Came c = search (rules, result_none, result_came)
+returns-in-Came c = search (rules, result_came, fits_then)

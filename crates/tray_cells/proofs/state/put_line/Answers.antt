@@ -1,5 +1,5 @@
--- `tray_cells::state::put_line` meets its contract, on either line. Assumes nothing.
-use borrow.Author.Rules.{rules}
+-- `tray_cells::state::put_line` meets its contract, by its cases. Assumes nothing.
+use Rattle.std.proofs.Common.{rules}
 use Rattle.tray_cells.proofs.StateLaws.{line_a, line_b}
 use Rattle.tray_cells.proofs.state.put_line.Goals as goal
 

@@ -1,11 +1,11 @@
--- `tray_cells::state::put_message` meets its contract, of an open message and of none. Assumes
--- nothing.
-use borrow.Author.Rules.{rules}
+-- `tray_cells::state::put_message` meets its contract, by its cases. Assumes nothing.
+use Rattle.std.proofs.Common.{rules}
 use Rattle.tray_cells.proofs.StateLaws.{message_idle, message_open}
+use Rattle.shown.proofs.TextLaws.{fits_then}
 use Rattle.tray_cells.proofs.state.put_message.Goals as goal
 
 pub returns-in-Idle : goal.returns-in-Idle
 returns-in-Idle c = search (rules, message_idle, message_open)
 
 pub returns-in-Open : goal.returns-in-Open
-returns-in-Open c = search (rules, message_idle, message_open)
+returns-in-Open c = search (rules, message_idle, message_open, fits_then)
