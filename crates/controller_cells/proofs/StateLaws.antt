@@ -1,11 +1,20 @@
 -- The laws of `specs/State.antt`: the parts of the state's text in turn, as the code puts them.
 -- Assumes nothing.
-use mathlib.Core.Path.{◌≡◌}
+use mathlib.Core.Path.{◌≡◌, refl}
 use mathlib.Core.Bool.{Bool, true, false}
-use mathlib.Core.List.{List}
+use mathlib.Core.List.{◌++◌}
 use Prim.Native.Nat.{ℕ}
+use denote.Enum.Declared.{tag_of}
+use Rattle.formats.specs.contracts.row.Row.{the_type}
 use Rattle.formats.specs.declared.row.Row.{Row}
-use Rattle.exchange.specs.declared.order.Order.{Order}
+use Rattle.formats.specs.declared.row.Row.TheVariants.{
+  ToTerminal,
+  FromTerminal,
+  Between,
+  ModeAlone,
+  ModeWithWord,
+  ModeForWord,
+}
 use Rattle.exchange.specs.declared.state.Stage.{Stage}
 use Rattle.exchange.specs.declared.state.Stage.TheVariants.{
   Awaiting,
@@ -21,26 +30,24 @@ use Rattle.controller.specs.declared.state.Progress.TheVariants.{Given, Back}
 use Rattle.controller.specs.declared.state.OpenMessage.{OpenMessage}
 use Rattle.controller.specs.declared.state.Message.{Message}
 use Rattle.controller.specs.declared.state.Message.TheVariants.{Idle, Open}
-use Rattle.controller.specs.declared.state.Controller.{Controller}
-use Rattle.lines.specs.Digits.{hex_word, decimal}
+use Rattle.lines.specs.Digits.{decimal}
 use Rattle.lines.specs.declared.Page.{Page}
 use Rattle.shown.specs.Text.{bytes, Fits}
 use Rattle.shown.specs.Item.{part, line, mark_text}
-use Rattle.shown.proofs.TextLaws.{fits_then}
 use Rattle.desk.specs.declared.run.Run.{Run as HeldRun}
-use Rattle.controller_cells.specs.State.{
-  result_text,
-  row_number,
-  order_text,
-  stage_text,
-  progress_text,
-  message_text,
-  words_text,
-  controller_text,
-  state_text,
-}
+use Rattle.controller_cells.specs.State.{result_text, row_number, order_text, stage_text, progress_text, message_text, controller_text, state_text}
 
 -- ---- one part
+
+-- the place of a row among its kind is its number
+numbered : (row : Row) → tag_of the_type row ≡ row_number row
+unfolding row_number
+numbered ToTerminal = refl
+numbered FromTerminal = refl
+numbered Between = refl
+numbered ModeAlone = refl
+numbered ModeWithWord = refl
+numbered ModeForWord = refl
 
 module _ {old new : Page} where
   pub result_none : (result : Result) → result ≡ Absent
@@ -48,6 +55,10 @@ module _ {old new : Page} where
       → Fits old (result_text result) new
   unfolding result_text
   result_none result is fits = rw is fits
+
+  pub row_fits : (row : Row) → Fits old (part "open row " (decimal (tag_of the_type row))) new
+      → Fits old (part "open row " (decimal (row_number row))) new
+  row_fits row fits = rw (← numbered row) fits
 
   module _ (stage : Stage) where
     pub stage_awaiting : stage ≡ Awaiting → Fits old (bytes "stage awaiting ") new
