@@ -35,7 +35,16 @@ use Rattle.lines.specs.declared.Page.{Page}
 use Rattle.shown.specs.Text.{bytes, Fits}
 use Rattle.shown.specs.Item.{part, line, mark_text}
 use Rattle.desk.specs.declared.run.Run.{Run as HeldRun}
-use Rattle.controller_cells.specs.State.{result_text, row_number, order_text, stage_text, progress_text, message_text, controller_text, state_text}
+use Rattle.controller_cells.specs.State.{
+  result_text,
+  row_number,
+  order_text,
+  stage_text,
+  progress_text,
+  message_text,
+  controller_text,
+  state_text,
+}
 
 -- ---- one part
 

@@ -10,7 +10,16 @@ use lib.Dec.{leb, eqb}
 use lib.ListN.{length}
 use borrow.Author.Tests.{leb-true, leb-false, eqb-true, eqb-false}
 use Rattle.lines.specs.Digits.{hex_word, decimal, decimal_places}
-use Rattle.lines.specs.Lines.{blank, newline, each_word, status_line, queue_line, end_line, numbers_line, given_line}
+use Rattle.lines.specs.Lines.{
+  blank,
+  newline,
+  each_word,
+  status_line,
+  queue_line,
+  end_line,
+  numbers_line,
+  given_line,
+}
 use Rattle.lines.specs.Page.{has_room, written_on, line_on, Leaves, Wrote}
 use Rattle.lines.specs.Written.{
   put,
@@ -71,7 +80,8 @@ module _ {old first new : Page} where
           within (wrote_then letter (wrote_then first (wrote_then rest end))) (omega arith)
 
       pub numbers_parts : {fourth : Page} (letter one other : ℕ)
-          → Wrote 2 old (letter ∷ blank ∷ []) first → Wrote decimal_places first (decimal one) second
+          → Wrote 2 old (letter ∷ blank ∷ []) first
+          → Wrote decimal_places first (decimal one) second
           → Wrote 1 second (blank ∷ []) third → Wrote decimal_places third (decimal other) fourth
           → Wrote 1 fourth (newline ∷ []) new
           → Wrote line_room old (numbers_line letter one other) new
@@ -87,7 +97,9 @@ module _ (room : ℕ) (old : Page) (text : List ℕ) where
   without_room answer is none =
       record {
         same_buffer = refl;
-        is_wanted = sym (out_of_room room old.out.now old.at text (omega (arith, leb-false room (length old.out.now - old.at) (sym is ∙ none))));
+        is_wanted =
+            sym (out_of_room room old.out.now old.at text
+            (leb-false room (length old.out.now - old.at) (sym is ∙ none)));
       }
 
   pub with_room : {new : Page} (answer : Bool) → Wrote room old text new
@@ -96,7 +108,8 @@ module _ (room : ℕ) (old : Page) (text : List ℕ) where
       record {
         same_buffer = wrote.same_buffer;
         is_wanted = wrote.is_stored
-            ∙ sym (in_room room old.out.now old.at text (leb-true room (length old.out.now - old.at) (sym is ∙ some)));
+            ∙ sym (in_room room old.out.now old.at text
+            (leb-true room (length old.out.now - old.at) (sym is ∙ some)));
       }
 
 pub nothing_written : (room : ℕ) (out : List ℕ) (at : ℕ) → put at out ≡ written room out at []

@@ -51,11 +51,11 @@ sets_append out at (byte ∷ text) more =
 
 -- the two parts of what a page has after a text is stored
 module _ {room : ℕ} {old new : Page} {text : List ℕ} (wrote : Wrote room old text new) where
-  pub next_is : new.at ≡ old.at + length text
+  next_is : new.at ≡ old.at + length text
   unfolding stored
   next_is = ap (λ (left : Put). left.next) wrote.is_stored
 
-  pub after_is : new.out.now ≡ sets old.out.now old.at text
+  after_is : new.out.now ≡ sets old.out.now old.at text
   unfolding stored
   after_is = ap (λ (left : Put). left.bytes) wrote.is_stored
 
@@ -122,7 +122,10 @@ each_word_append : (words more : List ℕ)
 unfolding each_word
 each_word_append [] more = refl
 each_word_append (word ∷ words) more =
-    rw (each_word_append words more, append_assoc (hex_word word) (each_word words) (each_word more))
+    rw (
+      each_word_append words more,
+      append_assoc (hex_word word) (each_word words) (each_word more),
+    )
 
 each_word_one : (word : ℕ) → each_word (word ∷ []) ≡ blank ∷ hex_word word
 unfolding each_word
@@ -138,7 +141,7 @@ each_word_more words index inside =
       each_word_one (get_or words index 0),
     )
 
-pub nothing_wrote : (page : Page) → Wrote 0 page [] page
+nothing_wrote : (page : Page) → Wrote 0 page [] page
 unfolding stored
 nothing_wrote page =
     record {
@@ -172,10 +175,9 @@ words_end words index wrote inside all =
 
 -- ---- decimal: one digit more
 
-module _ (number : ℕ) where
-  pub digits_none : (page : Page) (places : ℕ) → places ≡ 0
-      → Wrote places page (decimal_by places number) page
-  digits_none page places none = rw (none, no_places number) (nothing_wrote page)
+pub digits_none : (page : Page) (places number : ℕ) → places ≡ 0
+    → Wrote places page (decimal_by places number) page
+digits_none page places number none = rw (none, no_places number) (nothing_wrote page)
 
 module _ {old new : Page} where
   pub digits_last : (places number : ℕ) → Wrote 1 old ((48 + number % 10) ∷ []) new

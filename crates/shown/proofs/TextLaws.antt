@@ -109,7 +109,8 @@ text_fits old text new room left wrote is left_is =
           wrote.is_wanted
           ∙ in_room (length (take room text)) old.out.now old.at (take room text)
           (omega (arith, length-take room text))
-          ∙ ap (λ (all : List ℕ). stored old.out.now old.at all) (cut room text (length old.out.now - old.at) is');
+          ∙ ap (λ (all : List ℕ). stored old.out.now old.at all)
+          (cut room text (length old.out.now - old.at) is');
     }
 
 -- ---- digits that were written onto a page of their own

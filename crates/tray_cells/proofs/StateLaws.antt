@@ -29,7 +29,20 @@ use Rattle.lines.specs.declared.Page.{Page}
 use Rattle.tray.specs.declared.run.Tray.{Tray as HeldTray}
 use Rattle.shown.specs.Text.{bytes, Fits}
 use Rattle.shown.specs.Item.{item, part, line}
-use Rattle.tray_cells.specs.State.{line_name, second_text, stage_text, opening_text, fixed_text, progress_text, message_text, blocks_from, each_block, waiting_text, terminal_text, state_text}
+use Rattle.tray_cells.specs.State.{
+  line_name,
+  second_text,
+  stage_text,
+  opening_text,
+  fixed_text,
+  progress_text,
+  message_text,
+  blocks_from,
+  each_block,
+  waiting_text,
+  terminal_text,
+  state_text,
+}
 use Rattle.shown.proofs.TextLaws.{fits_then, nothing_fits}
 
 -- ---- one part
@@ -146,7 +159,7 @@ blocks_more places start index before gap block =
       add-one index,
       block_more places start index,
       each_append (blocks_from places start index)
-      (get_or places ((start + index) % queue_places) 0 ∷ []),
+          (get_or places ((start + index) % queue_places) 0 ∷ []),
       each_one (get_or places ((start + index) % queue_places) 0),
     )
     (fits_then before (fits_then gap block))

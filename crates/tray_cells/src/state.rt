@@ -23,9 +23,9 @@ ghost use Rattle.tray_cells.specs.State.{
   state_text,
 };
 
+use lines::Page;
 use message::state::{Message, OpenMessage, Second, Stage};
 use queue::Ring;
-use lines::Page;
 use shown::item::put_item;
 use shown::text::{Hex, Shown, put_text};
 use terminal::state::{Core, Held};

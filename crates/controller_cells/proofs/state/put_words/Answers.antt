@@ -1,4 +1,5 @@
--- `controller_cells::state::put_words` meets its contract: its parts are put in turn. Assumes nothing.
+-- `controller_cells::state::put_words` meets its contract: its parts are put in turn. Assumes
+-- nothing.
 use Rattle.std.proofs.Common.{rules}
 use Rattle.shown.proofs.TextLaws.{fits_then}
 use Rattle.controller_cells.specs.State.{words_text}

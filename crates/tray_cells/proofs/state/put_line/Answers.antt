@@ -4,7 +4,7 @@ use Rattle.tray_cells.proofs.StateLaws.{line_a, line_b}
 use Rattle.tray_cells.proofs.state.put_line.Goals as goal
 
 pub returns-then-line : goal.returns-then-line
-returns-then-line c = search (rules, line_a, line_b)
+returns-then-line c = search (rules, line_b)
 
 pub returns : goal.returns
-returns c = search (rules, line_a, line_b)
+returns c = search (rules, line_a)

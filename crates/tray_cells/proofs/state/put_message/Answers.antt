@@ -5,7 +5,7 @@ use Rattle.shown.proofs.TextLaws.{fits_then}
 use Rattle.tray_cells.proofs.state.put_message.Goals as goal
 
 pub returns-in-Idle : goal.returns-in-Idle
-returns-in-Idle c = search (rules, message_idle, message_open)
+returns-in-Idle c = search (rules, message_idle)
 
 pub returns-in-Open : goal.returns-in-Open
-returns-in-Open c = search (rules, message_idle, message_open, fits_then)
+returns-in-Open c = search (rules, message_open, fits_then)

@@ -1,4 +1,5 @@
--- `tray_cells::state::put_remembered` meets its contract: its parts are put in turn. Assumes nothing.
+-- `tray_cells::state::put_remembered` meets its contract: its parts are put in turn. Assumes
+-- nothing.
 use Rattle.std.proofs.Common.{rules}
 use Rattle.shown.proofs.TextLaws.{fits_then}
 use Rattle.tray_cells.specs.State.{remembered_text}

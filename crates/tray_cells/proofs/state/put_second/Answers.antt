@@ -4,7 +4,7 @@ use Rattle.tray_cells.proofs.StateLaws.{no_second, second_command}
 use Rattle.tray_cells.proofs.state.put_second.Goals as goal
 
 pub returns-in-Absent : goal.returns-in-Absent
-returns-in-Absent c = search (rules, no_second, second_command)
+returns-in-Absent c = search (rules, no_second)
 
 pub returns-in-Command : goal.returns-in-Command
-returns-in-Command c = search (rules, no_second, second_command)
+returns-in-Command c = search (rules, second_command)
