@@ -9,7 +9,7 @@ use crate::field::Field;
 use crate::reading::Reading;
 use crate::run::Run;
 use crate::{deed, print, reading, row};
-use lines;
+use lines::LINE_ROOM;
 use pieces;
 use pieces::Stop;
 use std::num;
@@ -88,7 +88,7 @@ fn turn(passed: Passed, ram: &mut [u16], window: &[u8], out: &mut [u8], last: bo
         ≡ turn desk_course window.now last
         (passed_of passed ram.old out.old) }
 {
-    if lines::left_from(out.len(), passed.put) < lines::LINE_ROOM {
+    if out.len().saturating_sub(passed.put) < LINE_ROOM {
         return passed.with_stop(passed.put, Stop::Full);
     }
     let run = passed.run;
@@ -130,7 +130,7 @@ pub fn run_window(run: Run, ram: &mut [u16], window: &[u8], out: &mut [u8], last
         if !stop.is_going() {
             break;
         }
-        let room = lines::left_from(out.len(), passed.put);
+        let room = out.len().saturating_sub(passed.put);
         let rowed = row::take_row(passed, ram, window, room, turns);
         let next = rowed.passed;
         turns = rowed.left;

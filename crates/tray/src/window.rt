@@ -5,7 +5,7 @@ ghost use Rattle.tray.specs.AsCoded.Held.{tray_of, passed_of, WasRead};
 
 use crate::run::Tray;
 use crate::{field, print, row};
-use lines;
+use lines::LINE_ROOM;
 use pieces;
 use pieces::Stop;
 use recording;
@@ -90,7 +90,7 @@ fn turn(
         ≡ turn window.now last
         (passed_of passed places.old ram.old out.old) }
 {
-    if lines::left_from(out.len(), passed.put) < lines::LINE_ROOM {
+    if out.len().saturating_sub(passed.put) < LINE_ROOM {
         return passed.with_stop(passed.put, Stop::Full);
     }
     let tray = passed.tray;
@@ -140,7 +140,7 @@ pub fn run_window(
         if !stop.is_going() {
             break;
         }
-        let room = lines::left_from(out.len(), passed.put);
+        let room = out.len().saturating_sub(passed.put);
         let rowed = row::take_row(passed, ram, window, room, turns);
         let next = rowed.passed;
         turns = rowed.left;

@@ -10,8 +10,8 @@ loop-turns-init c = search (rules, leading) depth 9
 pub is_going-requires : goal.is_going-requires
 is_going-requires c = search (rules, leading) depth 9
 
-pub left_from-room-requires : goal.left_from-room-requires
-left_from-room-requires c = search (rules, leading) depth 9
+pub saturating_sub-room-requires : goal.saturating_sub-room-requires
+saturating_sub-room-requires c = search (rules, leading) depth 9
 
 pub take_row-rowed-requires : goal.take_row-rowed-requires
 take_row-rowed-requires c = search (rules, leading) depth 9
@@ -32,7 +32,7 @@ loop-turns-preserved c =
     c.loop-turns-test.true
     c.is_going.ensures
     (ap not c.if-not-is_going.false)
-    c.left_from-room.ensures
+    c.saturating_sub-room.ensures
     c.take_row-rowed.ensures
     c.turn-passed.ensures
     (search rules)

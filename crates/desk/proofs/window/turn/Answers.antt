@@ -4,8 +4,8 @@ use Rattle.desk.proofs.TurnLaws.{turning}
 use Rattle.desk.proofs.TakenLaws.{reads_on}
 use Rattle.desk.proofs.window.turn.Goals as goal
 
-pub returns-then-left_from-lt-LINE_ROOM : goal.returns-then-left_from-lt-LINE_ROOM
-returns-then-left_from-lt-LINE_ROOM c = search (rules, turning) depth 9
+pub returns-then-saturating_sub-lt-LINE_ROOM : goal.returns-then-saturating_sub-lt-LINE_ROOM
+returns-then-saturating_sub-lt-LINE_ROOM c = search (rules, turning) depth 9
 
 pub take_field-requires : goal.take_field-requires
 take_field-requires c = search (rules, reads_on) depth 9

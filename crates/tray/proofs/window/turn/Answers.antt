@@ -3,8 +3,8 @@ use Rattle.std.proofs.Common.{rules}
 use Rattle.tray.proofs.TurnLaws.{turning, reads_on}
 use Rattle.tray.proofs.window.turn.Goals as goal
 
-pub returns-then-left_from-lt-LINE_ROOM : goal.returns-then-left_from-lt-LINE_ROOM
-returns-then-left_from-lt-LINE_ROOM c = search (rules, turning) depth 9
+pub returns-then-saturating_sub-lt-LINE_ROOM : goal.returns-then-saturating_sub-lt-LINE_ROOM
+returns-then-saturating_sub-lt-LINE_ROOM c = search (rules, turning) depth 9
 
 pub take_field-requires : goal.take_field-requires
 take_field-requires c = search (rules, reads_on) depth 9
