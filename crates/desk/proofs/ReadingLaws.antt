@@ -25,7 +25,7 @@ use Rattle.std.proofs.Common.{
 use native.Mathlib.Decide.{ℕ_discrete, dec_lt}
 use borrow.Author.Tests.{not-true, not-false}
 use Rattle.recording.specs.declared.seen.Seen.{Seen}
-use Rattle.recording.specs.declared.reading.Reading.{Reading as SharedReading}
+use Rattle.recording.specs.Reading.{Reading as SharedReading}
 use Rattle.recording.specs.Bytes.{bytes_left, byte_at, word_at}
 use Rattle.recording.specs.Reading as recording
 use Rattle.desk.specs.declared.field.Field.TheVariants.{Setup, Start}

@@ -2,8 +2,8 @@
 use Rattle.std.proofs.Common.{◌≡◌, ℕ}
 use Rattle.recording.specs.declared.field.Field.{Field as SharedField}
 use Rattle.recording.specs.declared.seen.Seen.{Seen}
-use Rattle.recording.specs.declared.reading.Reading.{Reading as SharedReading}
-use Rattle.recording.specs.declared.reading.Reading.TheVariants as shared
+use Rattle.recording.specs.Reading.{Reading as SharedReading}
+use Rattle.recording.specs.Reading as shared
 use Rattle.recording.specs.Seen.{setup_seen}
 use Rattle.desk.specs.declared.field.Field.{Field}
 use Rattle.desk.specs.declared.field.Field.TheVariants.{Setup, Start, Shared}

@@ -24,8 +24,8 @@ use Rattle.std.proofs.Common.{
 use Rattle.rules.proofs.Choices.{by_test}
 use Rattle.recording.specs.declared.field.Field.{Field as SharedField}
 use Rattle.recording.specs.declared.seen.Seen.{Seen}
-use Rattle.recording.specs.declared.reading.Reading.{Reading as SharedReading}
-use Rattle.recording.specs.declared.reading.Reading.TheVariants as shared
+use Rattle.recording.specs.Reading.{Reading as SharedReading}
+use Rattle.recording.specs.Reading as shared
 use Rattle.recording.specs.Bytes.{bytes_left, byte_at}
 use Rattle.recording.specs.Reading as recording
 use Rattle.recording.proofs.TakenLaws.{taken_within}

@@ -3,8 +3,8 @@
 -- Definitions only. Assumes nothing.
 use Rattle.std.specs.Prelude.{ℕ, ◌+◌, Bool, cond, not, ◌||◌, List, ◌==◌, nat_lt}
 use Rattle.recording.specs.declared.seen.Seen.{Seen}
-use Rattle.recording.specs.declared.reading.Reading.{Reading as SharedReading}
-use Rattle.recording.specs.declared.reading.Reading.TheVariants as shared
+use Rattle.recording.specs.Reading.{Reading as SharedReading}
+use Rattle.recording.specs.Reading as shared
 use Rattle.recording.specs.Bytes.{bytes_left, byte_at, word_at}
 use Rattle.recording.specs.Reading as recording
 use Rattle.recording.specs.Seen.{setup_seen}

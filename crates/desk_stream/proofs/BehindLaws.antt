@@ -10,8 +10,8 @@ use lib.Dec.{eqb, ltb}
 use lib.ListN.{length, length-append}
 use borrow.Author.Tests.{ne_eqb, eqb-true, eqb-false, ltb-false, le-ltb}
 use Rattle.rules.proofs.Stays.{Stays, same, open_way, same_way, either_way}
-use Rattle.recording.specs.declared.reading.Reading.{Reading as SharedReading}
-use Rattle.recording.specs.declared.reading.Reading.TheVariants as shared
+use Rattle.recording.specs.Reading.{Reading as SharedReading}
+use Rattle.recording.specs.Reading as shared
 use Rattle.recording.specs.declared.seen.Seen.{Seen}
 use Rattle.recording.specs.Bytes.{bytes_left, byte_at, word_at}
 use Rattle.recording.specs.Reading as recording

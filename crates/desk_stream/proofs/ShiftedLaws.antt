@@ -9,8 +9,8 @@ use native.Mathlib.Omega.{arith}
 use lib.Dec.{eqb}
 use lib.ListN.{drop, length-drop}
 use Rattle.rules.proofs.Choices.{choice_under}
-use Rattle.recording.specs.declared.reading.Reading.{Reading as SharedReading}
-use Rattle.recording.specs.declared.reading.Reading.TheVariants as shared
+use Rattle.recording.specs.Reading.{Reading as SharedReading}
+use Rattle.recording.specs.Reading as shared
 use Rattle.recording.specs.declared.seen.Seen.{Seen}
 use Rattle.recording.specs.Bytes.{bytes_left, byte_at}
 use Rattle.recording.specs.Reading as recording

@@ -3,6 +3,7 @@
 use mathlib.Core.Path.{◌≡◌, refl, subst}
 use mathlib.Core.Bool.{Bool, true, false, not, ◌&&◌}
 use mathlib.Core.List.{List}
+use Rattle.std.proofs.Common.{Option, Some, None}
 use Prim.Native.Nat.{ℕ, ◌+◌, ◌≤◌, ◌<◌}
 use native.Mathlib.Omega.{arith}
 use lib.Dec.{eqb, leb, ltb}
@@ -22,18 +23,16 @@ use Rattle.bus.specs.Limits.{all_marks, are_marks}
 use Rattle.recording.specs.declared.field.Field.TheVariants.{Word}
 use Rattle.recording.specs.declared.seen.Seen.{Seen}
 use Rattle.recording.specs.declared.words.Found.{Found}
-use Rattle.recording.specs.declared.words.Found.TheVariants.{Value, Nothing}
-use Rattle.recording.specs.declared.reading.Reading.TheVariants.{Taken}
 use Rattle.recording.specs.Bytes.{bytes_left, byte_at, word_at, time_at}
 use Rattle.recording.specs.Tag.{word_tag, tag_of, length_fits}
 use Rattle.recording.specs.Field.{field_at}
-use Rattle.recording.specs.Reading.{read_at}
-use Rattle.recording.specs.AsCoded.Found.{starts_word, word_found}
+use Rattle.recording.specs.Reading.{Taken, read_at}
+use Rattle.recording.specs.AsCoded.Found.{starts_word, found, word_found}
 
 -- ---- as the code looks
 
 module _ (bytes : List ℕ) (place marks left : ℕ) (is_left : left ≡ bytes_left bytes place) where
-  pub found_short : left < 10 → Nothing ≡ word_found bytes place marks
+  pub found_short : left < 10 → None ≡ word_found bytes place marks
   unfolding word_found
   found_short short = rw (lt-leb 10 (bytes_left bytes place) (omega arith))
 
@@ -42,13 +41,13 @@ module _ (bytes : List ℕ) (place marks left : ℕ) (is_left : left ≡ bytes_l
     long = le-leb 10 (bytes_left bytes place) (omega arith)
 
     pub found_other : not (starts_word bytes place marks) ≡ true
-        → Nothing ≡ word_found bytes place marks
+        → None ≡ word_found bytes place marks
     unfolding word_found
     found_other other = rw (long, not-true (starts_word bytes place marks) other)
 
     pub found_word : (value : ℕ) → not (starts_word bytes place marks) ≡ false
         → value ≡ word_at bytes (place + 4)
-        → Value value (place + 10) ≡ word_found bytes place marks
+        → Some (found value (place + 10)) ≡ word_found bytes place marks
     unfolding word_found
     found_word value is is_value = rw (long, not-false (starts_word bytes place marks) is, is_value)
 
@@ -93,13 +92,14 @@ module _ (bytes : List ℕ) (place marks : ℕ) (few : marks ≤ all_marks) (see
         next,
       )
 
-  abbrev Read : Found → Type 0
-  Read (Value value next) =
-      (next ≡ place + 10)
+  abbrev Read : Option Found → Type 0
+  Read (Some word) =
+      (word.next ≡ place + 10)
       × (10 ≤ bytes_left bytes place)
       × (byte_at bytes place ≡ word_tag)
-      × (read_at bytes place seen ≡ Taken (Word marks value (time_at bytes (place + 6))) next)
-  Read Nothing = place ≡ place
+      × (read_at bytes place seen
+      ≡ Taken (Word marks word.value (time_at bytes (place + 6))) word.next)
+  Read None = place ≡ place
 
   found_tells : Read (word_found bytes place marks)
   unfolding word_found
@@ -120,7 +120,7 @@ module _ (bytes : List ℕ) (place marks : ℕ) (few : marks ≤ all_marks) (see
       marked = eqb (byte_at bytes (place + 3)) marks
 
       go : leb 10 (bytes_left bytes place) && (tag && high && low && marked) ≡ true
-          → Read (Value (word_at bytes (place + 4)) (place + 10))
+          → Read (Some (found (word_at bytes (place + 4)) (place + 10)))
       go is =
           let long = leb 10 (bytes_left bytes place) in
           let to_marked = second_of_both long (tag && high && low && marked) is in
@@ -141,7 +141,7 @@ module _ (bytes : List ℕ) (place marks : ℕ) (few : marks ≤ all_marks) (see
                 (second_of_both (tag && high && low) marked to_marked)),
           )
 
-  module _ {value next : ℕ} (is : word_found bytes place marks ≡ Value value next) where
+  module _ {value next : ℕ} (is : word_found bytes place marks ≡ Some (found value next)) where
     pub found_is_read :
         read_at bytes place seen ≡ Taken (Word marks value (time_at bytes (place + 6))) next
     found_is_read = (subst Read is found_tells).3

@@ -8,21 +8,19 @@ ghost use Rattle.recording.specs.AsCoded.Found.{word_found};
 use crate::{bytes, tag};
 use card::host;
 
-// What is found where a word field with certain marks is looked for.
+// A word field that was looked for: its value, and where the next field begins.
 #[derive(Clone, Copy)]
-pub enum Found {
-    // its value, and where the next field begins
-    Value { value: u16, next: usize },
-    // no whole such field
-    Nothing,
+pub struct Found {
+    pub value: u16,
+    pub next: usize,
 }
 
-// Looks for a word field with these marks alone. A row of such fields is read faster so.
-pub fn find_word(bytes: &[u8], place: usize, marks: u8) -> Found
+// Looks for a whole word field with these marks alone. A row of such fields is read faster so.
+pub fn find_word(bytes: &[u8], place: usize, marks: u8) -> Option<Found>
     ensures { result ≡ word_found bytes.now place marks }
 {
     if bytes::bytes_left(bytes, place) < 10 {
-        return Found::Nothing;
+        return None;
     }
     let tag = bytes[place];
     let high = bytes[place + 1];
@@ -30,12 +28,12 @@ pub fn find_word(bytes: &[u8], place: usize, marks: u8) -> Found
     let found = bytes[place + 3];
     let starts = (tag == tag::WORD_TAG) & (high == 0) & (low == 7) & (found == marks);
     if !starts {
-        return Found::Nothing;
+        return None;
     }
-    Found::Value {
+    Some(Found {
         value: bytes::word_at(bytes, place + 4),
         next: place + 10,
-    }
+    })
 }
 
 // ---- the words of a host write

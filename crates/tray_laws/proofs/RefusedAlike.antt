@@ -39,13 +39,11 @@ use Rattle.recording.specs.declared.field.Field.TheVariants.{
   MoveTable,
   SetFlags,
 }
-use Rattle.recording.specs.declared.reading.Reading.{Reading}
-use Rattle.recording.specs.declared.reading.Reading.TheVariants.{Taken, End, Refused}
 use Rattle.recording.specs.Bytes.{bytes_left, byte_at, word_at, time_at}
 use Rattle.recording.specs.Tag.{tag_at, is_unknown, length_fits}
 use Rattle.recording.specs.Field.{field_at, value_refusal}
 use Rattle.recording.specs.Seen.{is_due}
-use Rattle.recording.specs.Reading.{read_at}
+use Rattle.recording.specs.Reading.{Reading, Taken, End, Refused, read_at}
 use Rattle.recording.proofs.WordsLaws.{length_words_at}
 use Rattle.tray.specs.Run.{Tray}
 use Rattle.tray_laws.specs.Sound.{SoundTray}

@@ -30,12 +30,11 @@ use Rattle.recording.specs.declared.field.Field.TheVariants.{
   MoveTable,
   SetFlags,
 }
-use Rattle.recording.specs.declared.reading.Reading.TheVariants.{Taken, End, Refused}
 use Rattle.recording.specs.Bytes.{word_at, words_at}
 use Rattle.recording.specs.Tag.{tag_at}
 use Rattle.recording.specs.Field.{field_at}
 use Rattle.recording.specs.Seen.{seen_after}
-use Rattle.recording.specs.Reading.{read_at}
+use Rattle.recording.specs.Reading.{Taken, End, Refused, read_at}
 use Rattle.pieces.specs.LastLine.{counted, last_line}
 use Rattle.pieces.specs.Whole.{whole, with_line}
 use Rattle.tray.specs.Run.{Tray, shown_line, Whole}
