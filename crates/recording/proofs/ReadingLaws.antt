@@ -23,7 +23,7 @@ use Rattle.recording.specs.Seen.{is_due}
 use Rattle.recording.specs.Reading.{Taken, End, Refused, read_at}
 
 -- no refusal has the number of none
-not_none : (refusal : Refusal) → number_of refusal ≡ 0 → ⊥
+pub not_none : (refusal : Refusal) → number_of refusal ≡ 0 → ⊥
 not_none refusal none =
     let same : Some refusal ≡ None = same_refusal (Some refusal) None none in absurd (cc)
 
