@@ -64,8 +64,3 @@ module _ {wanted ram bytes : List ℕ} {address first count word : ℕ}
   writing_past ram' more past same =
       let value : ℕ = word_at bytes (first + 2 * word) in
       writing_less value ram' more refl (same ∙ sym (set_out ram (address + word) value past))
-
-  pub writing_none : count ≤ word → ram ≡ wanted
-  writing_none all =
-      let none : count - word ≡ 0 = omega arith in
-      sym (writing.leads ∙ rw none)
