@@ -1,6 +1,7 @@
 -- Each public contract of the crate allows one outcome alone: one reading, one run, one place in
 -- the window, one reason to stop, and one content of every cell and byte that was lent.
 -- Assumes nothing.
+use Rattle.desk.proofs.AnswerLaws.{same_reading}
 use Rattle.rules.proofs.Determined.{Determined, DeterminedAs, same}
 use Rattle.pieces.specs.AsCoded.Window.{Passed}
 use Rattle.desk.specs.Run.{Run}
@@ -13,7 +14,8 @@ use Rattle.desk.proofs.window.run_window.Kinds as run_window_kinds
 use Rattle.desk.proofs.window.run_window.Reads as run_window_reads
 
 pub read_field : Determined 1 read_field_kinds.ps read_field_kinds.r read_field_reads.Post
-read_field κs arguments result result' exit exit' = same
+read_field κs arguments result result' exit exit' = λ is is'.
+    same_reading result result' (same is is')
 
 pub at_start : Determined 0 at_start_kinds.ps at_start_kinds.r at_start_reads.Post
 at_start κs arguments result result' exit exit' = same

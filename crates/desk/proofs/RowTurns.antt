@@ -14,6 +14,7 @@ use Rattle.std.proofs.Common.{
   false,
   eqb,
   ◌≢◌,
+  Some,
   List,
   length,
   sym,
@@ -30,9 +31,8 @@ use Rattle.card.specs.declared.place.Block.{Block}
 use Rattle.card.specs.Memory.{with_cells}
 use Rattle.recording.specs.declared.field.Field.TheVariants.{Word as WordField}
 use Rattle.recording.specs.declared.seen.Seen.{Seen}
-use Rattle.recording.specs.declared.words.Found.TheVariants.{Value}
 use Rattle.recording.specs.Bytes.{bytes_left, time_at}
-use Rattle.recording.specs.AsCoded.Found.{word_found}
+use Rattle.recording.specs.AsCoded.Found.{word_found, found as found_word}
 use Rattle.recording.specs.Value.{valued_at}
 use Rattle.recording.proofs.FoundLaws.{found_is_read, found_whole, found_tag}
 use Rattle.controller.specs.declared.row.Wanted.{Wanted}
@@ -59,8 +59,7 @@ use Rattle.rows.proofs.TakenLaws as rows
 use Rattle.rows.proofs.RowTurns.{nothing_taken, row_is_turns}
 use Rattle.desk.specs.declared.window.Passed.{Passed as HeldPassed}
 use Rattle.desk.specs.declared.field.Field.TheVariants.{Shared}
-use Rattle.desk.specs.declared.reading.Reading.TheVariants.{Taken as TakenField}
-use Rattle.desk.specs.Reading.{read_at}
+use Rattle.desk.specs.Reading.{Taken as TakenField, read_at}
 use Rattle.desk.specs.Deed.{shared_deed, deed_of}
 use Rattle.desk.specs.Run.{Run, taking, took_by, met_by, desk_course}
 use Rattle.desk.specs.AsCoded.Row.{passed_after, RowTaken}
@@ -74,7 +73,7 @@ run_over seen old fields offset =
 
 -- a word that is found is read: its tag is one of document 01's
 word_is_read : (window : List ℕ) (line : Bool) (at value next : ℕ) (seen : Seen)
-    → seen.setup ≡ true → word_found window at (marks_on line) ≡ Value value next
+    → seen.setup ≡ true → word_found window at (marks_on line) ≡ Some (found_word value next)
     → read_at window at seen
     ≡ TakenField (Shared (WordField (marks_on line) value (time_at window (at + 6)))) next
 unfolding read_at

@@ -46,11 +46,10 @@ use Rattle.controller.specs.State.{Desk, desk}
 use Rattle.controller.specs.Start.{Started, may_start, starting_by, start_step}
 use Rattle.desk.specs.declared.field.Field.{Field}
 use Rattle.desk.specs.declared.field.Field.TheVariants.{Setup, Start, Shared}
-use Rattle.desk.specs.declared.reading.Reading.{Reading}
-use Rattle.desk.specs.declared.reading.Reading.TheVariants.{Taken, End, Refused}
 use Rattle.desk.specs.declared.deed.Answer.{Answer}
 use Rattle.desk.specs.declared.window.Passed.{Passed as HeldPassed}
-use Rattle.desk.specs.Reading.{read_at, seen_after}
+use Rattle.desk.specs.declared.reading.Taken.{Taken as FieldTaken}
+use Rattle.desk.specs.Reading.{Reading, read_at, reading, seen_after}
 use Rattle.desk.specs.Deed.{Done, done, shared_deed, deed_of, answer_line}
 use Rattle.desk.specs.Run.{Run, taking, took_by, met_by, desk_course}
 use Rattle.desk.specs.AsCoded.Held.{run_of, passed_of, answer_in}
@@ -201,40 +200,43 @@ module _ (ran : HeldPassed) (ram out window : List ℕ) (last : Bool) (room : �
   turn_full left short is_left =
       rw is_left (general.turn_full desk_course window last before (rw is_room at short))
 
-  module _ (reading : Reading) (enough : line_room ≤ room)
-      (is_reading : reading ≡ read_at window ran.at ran.run.seen) where
+  module _ (answer : Result (Option FieldTaken) Refusal) (enough : line_room ≤ room)
+      (is_reading : reading answer ≡ read_at window ran.at ran.run.seen) where
     turn_by : pieces.passing desk_course
-        (met_by reading window ran.at (run_of ran.run ram)) last before
+        (met_by (reading answer) window ran.at (run_of ran.run ram)) last before
         ≡ turned
     unfolding desk_course
     turn_by =
         general.turn_by desk_course window last before (rw is_room at enough)
         (ap (λ (any : Reading). met_by any window ran.at before.run) (sym is_reading))
 
-    pub turn_takes : (told : Field) (next : ℕ) (new : pieces.Passed Run)
-        → reading ≡ Taken told next
+    pub turn_takes : (found : Option FieldTaken) (told : FieldTaken) (new : pieces.Passed Run)
+        → answer ≡ Ok found → found ≡ Some told
         → new
         ≡ pieces.passing desk_course
-        (took_by told ran.at next (deed_of window told (desk ran.run.controller ram))
+        (took_by told.field ran.at told.next
+        (deed_of window told.field (desk ran.run.controller ram))
         (run_of ran.run ram)) last before
         → new ≡ turned
     unfolding met_by
-    turn_takes told next new is is_new = rw (← turn_by, is) is_new
+    turn_takes found told new is some is_new = rw (← turn_by, is, some) is_new
 
     module _ (left : HeldPassed) (put' : ℕ) (stop : Stop) (out' : List ℕ)
         (is_left : left ≡ record { run = ran.run; at = ran.at; put = put'; stop = stop }) where
-      pub turn_ends : reading ≡ End
+      pub turn_ends : (found : Option FieldTaken) → answer ≡ Ok found → found ≡ None
           → pieces.stopped (put put' out') stop
           ≡ pieces.stopped_at 0 last ran.run.fields ran.run.offset out ran.put
           → passed_of left ram out' ≡ turned
       unfolding pieces.passing met_by desk_course
-      turn_ends is is_stopped = rw (← turn_by, is, is_left, ← is_stopped)
+      turn_ends found is none is_stopped = rw (← turn_by, is, none, is_left, ← is_stopped)
 
-      pub turn_refuses : (number : ℕ) → reading ≡ Refused number
+      pub turn_refuses : (number : ℕ) (refusal : Refusal) → answer ≡ Err refusal
+          → number ≡ number_of refusal
           → pieces.stopped (put put' out') stop
           ≡ pieces.stopped_at number last ran.run.fields ran.run.offset out ran.put
           → passed_of left ram out' ≡ turned
       unfolding pieces.passing met_by desk_course
-      turn_refuses number is is_stopped = rw (← turn_by, is, is_left, ← is_stopped)
+      turn_refuses number refusal is is_number is_stopped =
+          rw (← turn_by, is, ← is_number, is_left, ← is_stopped)
 
 pub ruleset turning = (turn_full, turn_takes, turn_ends, turn_refuses)

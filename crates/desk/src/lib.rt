@@ -15,6 +15,6 @@ mod run;
 mod window;
 
 pub use field::Field;
-pub use reading::{Reading, read_field};
+pub use reading::{Taken, read_field};
 pub use run::Run;
 pub use window::{Passed, run_window};

@@ -6,7 +6,6 @@ ghost use Rattle.desk.specs.Deed.{deed_of};
 ghost use Rattle.desk.specs.AsCoded.Held.{run_of, passed_of, WasRead};
 
 use crate::field::Field;
-use crate::reading::Reading;
 use crate::run::Run;
 use crate::{deed, print, reading, row};
 use lines::LINE_ROOM;
@@ -93,17 +92,15 @@ fn turn(passed: Passed, ram: &mut [u16], window: &[u8], out: &mut [u8], last: bo
     }
     let run = passed.run;
     let seen = run.seen;
-    let reading = reading::read_field(window, passed.at, seen);
-    match reading {
-        Reading::Taken { field, next } => {
-            take_field(passed, ram, window, out, last, field, next)
-        }
-        Reading::End => {
+    match reading::read_field(window, passed.at, seen) {
+        Ok(Some(taken)) => take_field(passed, ram, window, out, last, taken.field, taken.next),
+        Ok(None) => {
             let end = pieces::stop_at(out, passed.put, 0, last, run.fields, run.offset);
             let stop = end.stop;
             passed.with_stop(end.put, stop)
         }
-        Reading::Refused(number) => {
+        Err(refusal) => {
+            let number = u8::from(refusal);
             let end = pieces::stop_at(out, passed.put, number, last, run.fields, run.offset);
             let stop = end.stop;
             passed.with_stop(end.put, stop)
