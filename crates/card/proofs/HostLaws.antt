@@ -1,5 +1,27 @@
 -- The laws of `specs/Host.antt`: what `write_words` copies is all that is stored. Assumes nothing.
-use Rattle.std.proofs.Common.{◌≡◌, ℕ, suc, ◌+◌, ◌-◌, ◌≤◌, min, List, [], ◌∷◌, length, take, set, sym, refl, ◌∙◌, arith, append_assoc, length-set, length-take, take_all}
+use Rattle.std.proofs.Common.{
+  ◌≡◌,
+  ℕ,
+  suc,
+  ◌+◌,
+  ◌-◌,
+  ◌≤◌,
+  min,
+  List,
+  [],
+  ◌∷◌,
+  length,
+  take,
+  set,
+  sym,
+  refl,
+  ◌∙◌,
+  arith,
+  append_assoc,
+  length-set,
+  length-take,
+  take_all,
+}
 use native.Mathlib.Decide.{dec_lt, dec_le}
 use lib.Seq.{sets, sets-eq, set_out, drop-drop}
 use borrow.Rule.Slice.PartMut.{put_mid}
