@@ -58,8 +58,9 @@ pub copied : (ram words part : List ℕ) (address first count : ℕ)
 copied ram words part address first count begins few is =
     let long : length part ≡ count = rw is (length-take count words ∙ omega (arith, few)) in
     let more : first + count - first ≡ count = omega arith in
+    let fits : first + length part ≤ length ram = omega arith in
     let pasted : put_mid first (first + count - first) ram part ≡ sets ram first part =
-    rw (more, drop-drop count first ram, sets-eq part ram first (omega arith), long, append_assoc) in
+    rw (more, drop-drop count first ram, sets-eq part ram first fits, long, append_assoc) in
     elim (dec_lt address (length ram)) [
       | yes inside ↦
           let here : first ≡ address = omega arith in
