@@ -1,7 +1,27 @@
 -- The sound bus: a segment and the silence behind it is a turn; the replies that the silence brings
 -- are the next segments, one after the other; and so on until the controller's message has ended
 -- and no reply waits. Definitions only. Assumes nothing.
-use Rattle.std.specs.Prelude.{Bool, true, false, cond, ◌&&◌, List, [], ◌∷◌, ◌++◌, ℕ, zero, suc, ◌-◌, ltb, get_or, drop, None, Option, Some}
+use Rattle.std.specs.Prelude.{
+  Bool,
+  true,
+  false,
+  cond,
+  ◌&&◌,
+  List,
+  [],
+  ◌∷◌,
+  ◌++◌,
+  ℕ,
+  zero,
+  suc,
+  ◌-◌,
+  ltb,
+  get_or,
+  drop,
+  None,
+  Option,
+  Some,
+}
 use Rattle.terminal.specs.State.{Card}
 use Rattle.formats.specs.declared.row.Row.{Row}
 use Rattle.formats.specs.declared.row.Row.TheVariants.{

@@ -77,7 +77,8 @@ module _ (act : WordAct) (deed : WordDeed) (message : OpenMessage) (word : Word)
         → new ≡ done_by act word before
     unfolding done_by
     done_by_lem new is_new =
-        rw (← is_deed) is_new ∙ sym (ap (λ (met : Option OpenMessage). done_to_message met act word before) is)
+        rw (← is_deed) is_new
+        ∙ sym (ap (λ (met : Option OpenMessage). done_to_message met act word before) is)
 
     pub word_rested : deed ≡ word_deeds.Rest → before ≡ done_by act word before
     unfolding word_deed_done
@@ -113,7 +114,8 @@ pub idle_left : (act : WordAct) (word : Word) (core : Core) (places : List ℕ) 
     → card core (queue places ring) ram ≡ done_by act word (card core (queue places ring) ram)
 unfolding done_by
 idle_left act word core places ring ram is =
-    sym (ap (λ (met : Option OpenMessage). done_to_message met act word (card core (queue places ring) ram))
+    sym (ap
+    (λ (met : Option OpenMessage). done_to_message met act word (card core (queue places ring) ram))
     is)
 
 pub ruleset word_acting = (idle_left, word_rested, word_went_on, word_stored_lem, word_faulted)
