@@ -5,7 +5,6 @@ ghost use Rattle.desk.specs.AsCoded.Row.{passed_after, RowTaken};
 
 use crate::run::Run;
 use crate::window::Passed;
-use controller::row::Wanted;
 use rows::{Row, Taken};
 use std::num;
 
@@ -53,26 +52,19 @@ pub(crate) fn take_row(
     let run = passed.run;
     let controller = run.controller;
     let wanted = controller.words_wanted();
-    let Wanted::Words {
-        block,
-        cell,
-        end,
-        line,
-        taken,
-    } = wanted
-    else {
+    let Some(words) = wanted else {
         return Rowed {
             passed: passed,
             left: most,
         };
     };
     let row = Row {
-        block: block,
-        cell: cell,
-        end: end,
+        block: words.block,
+        cell: words.cell,
+        end: words.end,
     };
     let setup = run.seen.setup;
-    let next = row.take(ram, window, passed.at, line, setup, room, most);
+    let next = row.take(ram, window, passed.at, words.line, setup, room, most);
     if next.words == 0 {
         return Rowed {
             passed: passed,
@@ -80,7 +72,7 @@ pub(crate) fn take_row(
         };
     }
     Rowed {
-        passed: after_row(passed, taken, next),
+        passed: after_row(passed, words.taken, next),
         left: next.left,
     }
 }

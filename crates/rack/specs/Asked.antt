@@ -1,6 +1,6 @@
 -- What is asked of a message, by the terminal's own definitions: the terminals are idle and ready,
 -- the commands fit their row, and their stations are on the bus. Definitions only. Assumes nothing.
-use Rattle.std.specs.Prelude.{◌≡◌, ◌≢◌, Bool, true, false, cond, List, ℕ, None, Option, Some}
+use Rattle.std.specs.Prelude.{◌≡◌, ◌≢◌, Bool, true, false, cond, List, ℕ, Option, Some, None}
 use Rattle.bus.specs.declared.word.Word.{Word}
 use Rattle.bus.specs.declared.kind.Kind.{Kind}
 use Rattle.bus.specs.declared.kind.Kind.TheVariants.{

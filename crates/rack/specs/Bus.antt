@@ -18,9 +18,9 @@ use Rattle.std.specs.Prelude.{
   ltb,
   get_or,
   drop,
-  None,
   Option,
   Some,
+  None,
 }
 use Rattle.terminal.specs.State.{Card}
 use Rattle.formats.specs.declared.row.Row.{Row}
@@ -34,10 +34,8 @@ use Rattle.formats.specs.declared.row.Row.TheVariants.{
 }
 use Rattle.exchange.specs.declared.order.Order.{Order}
 use Rattle.exchange.specs.Order.{format_for}
-use Rattle.controller.specs.declared.state.Message.{Message}
-use Rattle.controller.specs.declared.state.Message.TheVariants.{Idle, Open}
+use Rattle.controller.specs.declared.state.OpenMessage.{OpenMessage}
 use Rattle.controller.specs.declared.start.Given.{Given as GivenWords}
-use Rattle.controller.specs.declared.start.Given.TheVariants.{Nothing as NoWords, Words}
 use Rattle.controller.specs.Control.{line_in}
 use Rattle.controller.specs.State.{Desk, is_idle}
 use Rattle.controller.specs.Start.{Started}
@@ -134,11 +132,11 @@ segment_of order words =
     (drop ((format_for order).given - (format_for order).behind) words)
 
 -- what a start says, by what it gives and the message that it opens
-abbrev pub said_at_start : GivenWords → Message → List ℕ → List Spoken
-said_at_start NoWords message ram = []
-said_at_start (Words block count) Idle ram = []
-said_at_start (Words block count) (Open message) ram =
-    Given (segment_of message.order (given_part ram block count)) ∷ []
+abbrev pub said_at_start : Option GivenWords → Option OpenMessage → List ℕ → List Spoken
+said_at_start None message ram = []
+said_at_start (Some given) None ram = []
+said_at_start (Some given) (Some message) ram =
+    Given (segment_of message.order (given_part ram given.block given.count)) ∷ []
 
 -- a message that is started is carried to its end; where none is, nothing changes
 unfoldable pub begun : (ℕ → Stamps) → Started → Rack → Rack

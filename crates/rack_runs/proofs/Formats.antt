@@ -6,6 +6,7 @@ use mathlib.Core.Bool.{◌&&◌}
 use mathlib.Core.List.{List, [], ◌∷◌, map}
 use Prim.Native.Nat.{ℕ}
 use lib.ListN.{get_or}
+use Rattle.std.proofs.Common.{Option, Some, None}
 use Rattle.terminal.specs.State.{Card}
 use Rattle.formats.specs.Row.{data_cell, data_words}
 use Rattle.exchange.specs.declared.order.Order.{Order}

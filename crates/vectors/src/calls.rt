@@ -47,7 +47,7 @@ fn number_if(right: bool, number: u8) -> u8 {
 
 // A part that is refused is empty; one that is shown has the words that were asked for.
 fn part_refusal(ram: &[u16], block: Block, count: u16) -> u8 {
-    let number = sent::refusal(ram, CARD_BLOCKS, block, count);
+    let number = sent::refusal(ram, CARD_BLOCKS, block, count).map_or(0, u8::from);
     let shown = sent::part(ram, CARD_BLOCKS, block, count).len();
     let right = ((number == 0) & (shown == count as usize)) | ((number != 0) & (shown == 0));
     number_if(right, number)

@@ -9,6 +9,7 @@ use Prim.Native.Nat.{ℕ}
 use native.Mathlib.Omega.{arith}
 use lib.ListN.{length}
 use borrow.Author.Tests.{le-ltb}
+use Rattle.std.proofs.Common.{Some, None}
 use Rattle.rules.proofs.Cases.{beq_same}
 use Rattle.bus.specs.Command.{address_of}
 use Rattle.card.specs.declared.place.Block.{Block}
@@ -20,7 +21,6 @@ use Rattle.exchange.specs.declared.state.Exchange.{Exchange}
 use Rattle.exchange.specs.declared.judge.SilenceAct.TheVariants.{GoOn, End}
 use Rattle.exchange.specs.Order.{format_for, awaited, awaited_last}
 use Rattle.exchange.specs.Judge.{exchange_of, at_first, is_marked, silence_heard}
-use Rattle.controller.specs.declared.state.Progress.TheVariants.{Given as GivenStage, Back}
 use Rattle.controller.specs.Control.{block_in, line_in}
 use Rattle.controller.specs.State.{Desk, with_message}
 use Rattle.controller.specs.Start.{with_order}
@@ -51,7 +51,7 @@ module _ (start : Desk) (order : Order) (taken : ℕ) (mark : Bool) (ram : List 
     where
       by_last : (last : Bool)
           → (silence_done (cond last (GoOn (exchange_of AwaitingLast taken mark)) End)
-          (record { order = order; progress = Back (exchange_of Reply taken mark) })
+          (record { order = order; progress = Some (exchange_of Reply taken mark) })
           (at (exchange_of Reply taken mark))).desk
           ≡ cond last (at (exchange_of AwaitingLast taken mark))
           (ended 0 mark (at (exchange_of Reply taken mark))).desk
@@ -76,7 +76,7 @@ module _ (order : Order) (old : Desk) where
     where
       by_status : (status : Bool)
           → (silence_done (cond status (GoOn at_first) End)
-          (record { order = order; progress = GivenStage }) (open_desk order old)).desk
+          (record { order = order; progress = None }) (open_desk order old)).desk
           ≡ cond status (back_at (open_desk order old) order at_first old.ram)
           (ended 0 false (open_desk order old)).desk
       by_status true = refl

@@ -5,6 +5,7 @@ use mathlib.Core.Path.{◌≡◌}
 use mathlib.Core.Bool.{Bool}
 use mathlib.Core.List.{List, [], ◌∷◌}
 use Prim.Native.Nat.{ℕ}
+use Rattle.std.proofs.Common.{Option, Some, None}
 use Rattle.terminal.specs.State.{Card}
 use Rattle.exchange.specs.declared.order.Order.{Order}
 use Rattle.controller.specs.Control.{line_in}

@@ -19,8 +19,7 @@ use Rattle.terminal_laws.specs.AtRest.{WholeAndFit, AtRest}
 use Rattle.terminal_laws.specs.OwnStatus.{OwnStatus}
 use Rattle.formats.specs.declared.row.Row.TheVariants.{ToTerminal, FromTerminal, ModeAlone}
 use Rattle.exchange.specs.declared.order.Order.{Order}
-use Rattle.controller.specs.declared.state.Result.TheVariants.{Came}
-use Rattle.controller.specs.State.{Desk}
+use Rattle.controller.specs.State.{came, Desk}
 use Rattle.controller.specs.Start.{order_in}
 use Rattle.rack.specs.Segment.{command_word}
 use Rattle.rack.specs.Bus.{rack, message}
@@ -99,7 +98,7 @@ unfoldable open_five : Card
 open_five = (step (word (command_word false false 0x2862 0)) five).card
 
 its_own_command_supersedes :
-    (message clock (rack to_five (open_five ∷ []))).desk.state.result ≡ Came 0 false
+    (message clock (rack to_five (open_five ∷ []))).desk.state.result ≡ came 0 false
 unfolding told open_five
 its_own_command_supersedes = refl
 

@@ -7,6 +7,7 @@ use mathlib.Core.List.{List, [], ◌∷◌}
 use Prim.Native.Nat.{ℕ, suc}
 use native.Mathlib.Omega.{arith}
 use lib.ListN.{drop_of_length-le}
+use Rattle.std.proofs.Common.{Option}
 use Rattle.bus.specs.Command.{address_of, is_broadcast}
 use Rattle.terminal.specs.State.{Card}
 use Rattle.formats.specs.declared.row.Format.{Format}
