@@ -6,7 +6,6 @@
 --     LineLaws       the lines, as the code writes them
 --     TurnLaws       one field of a window
 --     RowTurns       a row of data words, taken at once, is as many turns
---     LoopLaws       field after field
 --     Determined     each public contract allows one outcome alone
 pub mod ReadingLaws
 pub mod RunLaws
@@ -15,5 +14,4 @@ pub mod DeedLaws
 pub mod LineLaws
 pub mod TurnLaws
 pub mod RowTurns
-pub mod LoopLaws
 pub mod Determined

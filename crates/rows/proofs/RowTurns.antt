@@ -15,6 +15,7 @@ use Rattle.lines.specs.Written.{line_room}
 use Rattle.pieces.specs.LastLine.{counted}
 use Rattle.pieces.specs.Course.{Course}
 use Rattle.pieces.specs.AsCoded.Window.{Passed, passing, turn, turns}
+use Rattle.pieces.specs.AsCoded.Runner.{going_at, TurnsTaken}
 use Rattle.pieces.proofs.LineLaws.{nothing_written}
 use Rattle.pieces.proofs.TurnLaws.{turn_by, one_turn}
 use Rattle.rows.specs.declared.Row.{Row}
@@ -31,7 +32,7 @@ use Rattle.rows.specs.Row.{
   taken_as,
   row_taken,
 }
-use Rattle.rows.specs.Turns.{going_at, TurnsTaken, Hearing}
+use Rattle.rows.specs.Turns.{Hearing}
 use Rattle.rows.proofs.FoundLaws.{found_next, is_data_word}
 use Rattle.rows.proofs.TakenLaws.{found_few, some_taken}
 

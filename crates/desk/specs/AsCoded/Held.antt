@@ -3,12 +3,10 @@ use Rattle.std.specs.Prelude.{◌≡◌, ℕ, ◌*◌, ◌≤◌, List}
 use Rattle.recording.specs.declared.field.Field.TheVariants.{HostWrite}
 use Rattle.recording.specs.Bytes.{bytes_left}
 use Rattle.recording.specs.Seen.{nothing_seen}
-use Rattle.pieces.specs.AsCoded.Window as pieces
 use Rattle.controller.specs.State.{desk, at_setup}
 use Rattle.desk.specs.declared.field.Field.{Field}
 use Rattle.desk.specs.declared.field.Field.TheVariants.{Shared}
 use Rattle.desk.specs.declared.run.Run.{Run as HeldRun}
-use Rattle.desk.specs.declared.window.Passed.{Passed as HeldPassed}
 use Rattle.desk.specs.Run.{Run}
 
 -- the memory is lent
@@ -24,17 +22,6 @@ run_of run ram =
 -- before the first field
 unfoldable pub held_at_start : HeldRun
 held_at_start = record { controller = at_setup 0 0; seen = nothing_seen; fields = 0; offset = 0 }
-
--- so is the buffer
-abbrev pub passed_of : HeldPassed → List ℕ → List ℕ → pieces.Passed Run
-passed_of ran ram out =
-    record {
-      run = run_of ran.run ram;
-      at = ran.at;
-      put = ran.put;
-      out = out;
-      stop = ran.stop;
-    }
 
 -- ---- what a field brings that was read
 
