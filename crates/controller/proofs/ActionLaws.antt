@@ -4,12 +4,11 @@ use Prim.Native.Nat.{ℕ, ◌≤◌, ◌<◌}
 use lib.Dec.{eqb}
 use lib.ListN.{length}
 use borrow.Author.Tests.{eq-eqb, ne_eqb, le-leb, lt-leb}
+use Rattle.std.proofs.Common.{Option, None}
 use Rattle.bus.specs.declared.word.Word.{Word}
 use Rattle.bus.specs.Limits.{all_marks, last_line}
 use Rattle.bus.specs.Word.{word_of}
-use Rattle.controller.specs.declared.state.Result.{Result}
-use Rattle.controller.specs.declared.state.Result.TheVariants.{Absent}
-use Rattle.controller.specs.declared.start.Given.TheVariants.{Nothing}
+use Rattle.controller.specs.declared.state.Came.{Came}
 use Rattle.controller.specs.State.{Desk, desk_words}
 use Rattle.controller.specs.Start.{Started, started_as, start_step}
 use Rattle.controller.specs.Heard.{heard_as, word_step, silence_step}
@@ -17,15 +16,15 @@ use Rattle.controller.specs.Actions.{start_action, after, word_action, silence_a
 
 module _ (old : Desk) where
   module _ (other : length old.ram ≡ desk_words → ⊥) where
-    pub start_other_memory : started_as 1 Nothing old ≡ start_action old
+    pub start_other_memory : started_as 1 None old ≡ start_action old
     unfolding start_action
     start_other_memory = rw (ne_eqb (length old.ram) desk_words other)
 
-    pub word_other_memory : (marks value : ℕ) → after 1 Absent old ≡ word_action marks value old
+    pub word_other_memory : (marks value : ℕ) → after 1 None old ≡ word_action marks value old
     unfolding word_action
     word_other_memory marks value = rw (ne_eqb (length old.ram) desk_words other)
 
-    pub silence_other_memory : (line : ℕ) → after 1 Absent old ≡ silence_action line old
+    pub silence_other_memory : (line : ℕ) → after 1 None old ≡ silence_action line old
     unfolding silence_action
     silence_other_memory line = rw (ne_eqb (length old.ram) desk_words other)
 
@@ -35,17 +34,17 @@ module _ (old : Desk) where
     start_whole started same = rw (eq-eqb (length old.ram) desk_words whole) same
 
     pub marks_spare : (marks value : ℕ) → all_marks < marks
-        → after 8 Absent old ≡ word_action marks value old
+        → after 8 None old ≡ word_action marks value old
     unfolding word_action
     marks_spare marks value spare =
         rw (eq-eqb (length old.ram) desk_words whole, lt-leb marks all_marks spare)
 
-    pub line_spare : (line : ℕ) → last_line < line → after 8 Absent old ≡ silence_action line old
+    pub line_spare : (line : ℕ) → last_line < line → after 8 None old ≡ silence_action line old
     unfolding silence_action
     line_spare line spare =
         rw (eq-eqb (length old.ram) desk_words whole, lt-leb line last_line spare)
 
-    pub word_done_lem : (marks value : ℕ) (word : Word) (result : Result) (new : Desk)
+    pub word_done_lem : (marks value : ℕ) (word : Word) (result : Option Came) (new : Desk)
         → marks ≤ all_marks → word ≡ word_of marks value 0
         → heard_as result new ≡ word_step word old
         → after 0 result new ≡ word_action marks value old
@@ -58,7 +57,7 @@ module _ (old : Desk) where
           ← same,
         )
 
-    pub silence_done_lem : (line : ℕ) (result : Result) (new : Desk) → line ≤ last_line
+    pub silence_done_lem : (line : ℕ) (result : Option Came) (new : Desk) → line ≤ last_line
         → heard_as result new ≡ silence_step (eqb line 1) old
         → after 0 result new ≡ silence_action line old
     unfolding silence_action

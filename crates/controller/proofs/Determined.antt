@@ -4,6 +4,7 @@ use mathlib.Core.Path.{ap}
 use mathlib.Core.List.{List}
 use Prim.Native.Nat.{ℕ}
 use Rattle.rules.proofs.Determined.{Determined, DeterminedAs, same}
+use Rattle.refusals.proofs.NumberLaws.{same_refusal}
 use Rattle.controller.specs.declared.start.Started.{Started as CodeStarted}
 use Rattle.controller.specs.declared.heard.Heard.{Heard as CodeHeard}
 use Rattle.controller.specs.declared.actions.Answered.{Answered}
@@ -88,7 +89,8 @@ silence κs arguments result result' exit exit' is is' = ap answered_by (same is
 
 pub given_refusal :
     Determined 1 given_refusal_kinds.ps given_refusal_kinds.r given_refusal_reads.Post
-given_refusal κs arguments result result' exit exit' = same
+given_refusal κs arguments result result' exit exit' one other =
+    same_refusal result result' (same one other)
 
 pub given_part :
     DeterminedAs 1 given_part_kinds.ps given_part_kinds.r given_part_reads.Post (List ℕ)

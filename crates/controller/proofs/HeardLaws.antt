@@ -5,6 +5,7 @@ use mathlib.Core.List.{List}
 use Prim.Native.Nat.{ℕ}
 use lib.Dec.{eqb}
 use borrow.Author.Tests.{not-true, not-false}
+use Rattle.std.proofs.Common.{Option, Some, None}
 use Rattle.bus.specs.declared.word.Word.{Word}
 use Rattle.card.specs.declared.place.Block.{Block}
 use Rattle.card.specs.Memory.{the_cell, cell_at, with_cell}
@@ -19,15 +20,10 @@ use Rattle.exchange.specs.declared.judge.SilenceAct.TheVariants.{GoOn, End}
 use Rattle.exchange.specs.declared.judge.SilenceAct.TheVariants as silent
 use Rattle.exchange.specs.Order.{format_for}
 use Rattle.exchange.specs.Judge as exchange
-use Rattle.controller.specs.declared.state.Result.TheVariants.{Absent, Came}
-use Rattle.controller.specs.declared.state.Progress.{Progress}
-use Rattle.controller.specs.declared.state.Progress.TheVariants.{Given, Back}
 use Rattle.controller.specs.declared.state.OpenMessage.{OpenMessage}
-use Rattle.controller.specs.declared.state.Message.{Message}
-use Rattle.controller.specs.declared.state.Message.TheVariants.{Idle, Open}
 use Rattle.controller.specs.declared.state.Controller.{Controller}
 use Rattle.controller.specs.Control.{block_in, line_in, goes_on}
-use Rattle.controller.specs.State.{desk, open_back, with_message}
+use Rattle.controller.specs.State.{desk, came, open_back, with_message}
 use Rattle.controller.specs.Heard.{
   Heard,
   heard_as,
@@ -53,13 +49,13 @@ module _ (state : Controller) (ram : List ℕ) (code : ℕ) (mark onward : Bool)
     -- what an end leaves, by its control word
     abbrev left : ℕ → Heard
     left control =
-        heard_as (Came code mark)
+        heard_as (came code mark)
         (desk (record {
           control = control;
           count = state.count;
           due = eqb code 0 && not mark && onward;
-          result = Came code mark;
-          message = Idle;
+          result = came code mark;
+          message = None;
         }) ram)
 
     pub goes_on_lem : (eqb code 0 && not mark && onward) ≡ true
@@ -76,16 +72,16 @@ pub ruleset ends = (goes_on_lem, stops)
 
 -- ---- what is to be done
 
-module _ (progress : Progress) (order : Order) where
-  pub word_back : (act : WordAct) (word : Word) (so_far : Exchange) → progress ≡ Back so_far
+module _ (progress : Option Exchange) (order : Order) where
+  pub word_back : (act : WordAct) (word : Word) (so_far : Exchange) → progress ≡ Some so_far
       → act ≡ exchange.on_word order so_far word → act ≡ word_in progress order word
   word_back act word so_far is same = rw is same
 
-  pub silence_back : (act : SilenceAct) (so_far : Exchange) → progress ≡ Back so_far
+  pub silence_back : (act : SilenceAct) (so_far : Exchange) → progress ≡ Some so_far
       → act ≡ exchange.on_silence order so_far → act ≡ silence_in progress order
   silence_back act so_far is same = rw is same
 
-  module _ (format : Format) (is_format : format ≡ format_for order) (is : progress ≡ Given) where
+  module _ (format : Format) (is_format : format ≡ format_for order) (is : progress ≡ None) where
     pub status_due_lem : (first : Exchange) → first ≡ exchange.at_first → format.status ≡ true
         → GoOn first ≡ silence_in progress order
     status_due_lem first is_first due = rw (is, ← is_format, due, is_first)
@@ -110,7 +106,7 @@ module _ (state : Controller) (ram : List ℕ) (message : OpenMessage) where
         → act ≡ Take cell so_far → block ≡ block_in state.control
         → ram' ≡ with_cell ram block (the_cell cell) word.value
         → new ≡ with_message (open_back message.order so_far) state
-        → heard_as Absent (desk new ram') ≡ word_done act message word (desk state ram)
+        → heard_as None (desk new ram') ≡ word_done act message word (desk state ram)
     unfolding word_done
     word_taken cell so_far block new ram' is is_Block is_ram is_new =
         rw (is, ← is_Block, ← is_ram, ← is_new)
@@ -130,7 +126,7 @@ module _ (state : Controller) (ram : List ℕ) (message : OpenMessage) where
 
     pub silence_goes_on : (so_far : Exchange) (new : Controller) → act ≡ GoOn so_far
         → new ≡ with_message (open_back message.order so_far) state
-        → heard_as Absent (desk new ram) ≡ silence_done act message (desk state ram)
+        → heard_as None (desk new ram) ≡ silence_done act message (desk state ram)
     unfolding silence_done
     silence_goes_on so_far new is is_new = rw (is, ← is_new)
 
@@ -139,12 +135,12 @@ pub ruleset done = (word_faults, word_taken, silence_faults, silence_ends, silen
 -- ---- whether it has an effect
 
 module _ (state : Controller) (ram : List ℕ) (word : Word) where
-  pub word_idle : state.message ≡ Idle
+  pub word_idle : state.message ≡ None
       → unheard (desk state ram) ≡ word_step word (desk state ram)
   unfolding word_step word_met
   word_idle is = rw is
 
-  module _ (message : OpenMessage) (line : Bool) (is : state.message ≡ Open message)
+  module _ (message : OpenMessage) (line : Bool) (is : state.message ≡ Some message)
       (is_line_lem : line ≡ line_in state.control) where
     pub word_elsewhere : not (beq word.line line) ≡ true
         → unheard (desk state ram) ≡ word_step word (desk state ram)
@@ -157,19 +153,19 @@ module _ (state : Controller) (ram : List ℕ) (word : Word) where
         → left ≡ word_step word (desk state ram)
     unfolding word_step word_met
     word_here act left same is_act is_left =
-        let here : word_met (Open message) word (desk state ram)
+        let here : word_met (Some message) word (desk state ram)
         ≡ word_done act message word (desk state ram) =
         rw (← is_line_lem, not-false (beq word.line line) same, ← is_act) refl in
         is_left
-        ∙ sym (ap (λ (any : Message). word_met any word (desk state ram)) is ∙ here)
+        ∙ sym (ap (λ (any : Option OpenMessage). word_met any word (desk state ram)) is ∙ here)
 
 module _ (state : Controller) (ram : List ℕ) (on : Bool) where
-  pub silence_idle : state.message ≡ Idle
+  pub silence_idle : state.message ≡ None
       → unheard (desk state ram) ≡ silence_step on (desk state ram)
   unfolding silence_step silence_met
   silence_idle is = rw is
 
-  module _ (message : OpenMessage) (line : Bool) (is : state.message ≡ Open message)
+  module _ (message : OpenMessage) (line : Bool) (is : state.message ≡ Some message)
       (is_line_lem : line ≡ line_in state.control) where
     pub silence_elsewhere : not (beq on line) ≡ true
         → unheard (desk state ram) ≡ silence_step on (desk state ram)
@@ -182,11 +178,11 @@ module _ (state : Controller) (ram : List ℕ) (on : Bool) where
         → left ≡ silence_step on (desk state ram)
     unfolding silence_step silence_met
     silence_here act left same is_act is_left =
-        let here : silence_met (Open message) on (desk state ram)
+        let here : silence_met (Some message) on (desk state ram)
         ≡ silence_done act message (desk state ram) =
         rw (← is_line_lem, not-false (beq on line) same, ← is_act) refl in
         is_left
-        ∙ sym (ap (λ (any : Message). silence_met any on (desk state ram)) is ∙ here)
+        ∙ sym (ap (λ (any : Option OpenMessage). silence_met any on (desk state ram)) is ∙ here)
 
 pub ruleset met =
     (word_idle, word_elsewhere, word_here, silence_idle, silence_elsewhere, silence_here)

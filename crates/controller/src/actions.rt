@@ -5,8 +5,8 @@ ghost use Rattle.controller.specs.State.{desk};
 ghost use Rattle.controller.specs.Start.{started_as};
 ghost use Rattle.controller.specs.Actions.{start_action, after, word_action, silence_action};
 
-use crate::start::{Given, Started};
-use crate::state::{Controller, DESK_WORDS, Result};
+use crate::start::Started;
+use crate::state::{Came, Controller, DESK_WORDS};
 use bus::limits::{ALL_MARKS, LAST_LINE};
 use bus::word;
 
@@ -15,7 +15,7 @@ use bus::word;
 #[derive(Clone, Copy)]
 pub struct Answered {
     pub refusal: u8,
-    pub result: Result,
+    pub result: Option<Came>,
     pub controller: Controller,
 }
 
@@ -29,7 +29,7 @@ impl Controller {
         if ram.len() != DESK_WORDS {
             return Started {
                 refusal: 1,
-                given: Given::Nothing,
+                given: None,
                 controller: self,
             };
         }
@@ -45,14 +45,14 @@ impl Controller {
         if ram.len() != DESK_WORDS {
             return Answered {
                 refusal: 1,
-                result: Result::Absent,
+                result: None,
                 controller: self,
             };
         }
         if marks > ALL_MARKS {
             return Answered {
                 refusal: 8,
-                result: Result::Absent,
+                result: None,
                 controller: self,
             };
         }
@@ -75,14 +75,14 @@ impl Controller {
         if ram.len() != DESK_WORDS {
             return Answered {
                 refusal: 1,
-                result: Result::Absent,
+                result: None,
                 controller: self,
             };
         }
         if line > LAST_LINE {
             return Answered {
                 refusal: 8,
-                result: Result::Absent,
+                result: None,
                 controller: self,
             };
         }

@@ -15,7 +15,7 @@ ghost use Rattle.controller.specs.Heard.{
 };
 
 use crate::control;
-use crate::state::{Controller, Message, OpenMessage, Progress, Result};
+use crate::state::{Came, Controller, OpenMessage};
 use bus::word::Word;
 use card::memory;
 use card::place::Cell;
@@ -26,7 +26,7 @@ use exchange::state::Exchange;
 // What a word or a silence leaves: the result where it ends the message, and the controller.
 #[derive(Clone, Copy)]
 pub struct Heard {
-    pub result: Result,
+    pub result: Option<Came>,
     pub controller: Controller,
 }
 
@@ -37,8 +37,8 @@ impl OpenMessage {
     {
         let progress = self.progress;
         match progress {
-            Progress::Given => false,
-            Progress::Back(exchange) => exchange.mark,
+            None => false,
+            Some(exchange) => exchange.mark,
         }
     }
 
@@ -47,7 +47,7 @@ impl OpenMessage {
         ensures { result ≡ word_in self.progress self.order word }
     {
         let progress = self.progress;
-        let Progress::Back(exchange) = progress else {
+        let Some(exchange) = progress else {
             let sound = word.sound;
             if !sound {
                 return WordAct::Fault(1);
@@ -64,7 +64,7 @@ impl OpenMessage {
     {
         let progress = self.progress;
         let order = self.order;
-        let Progress::Back(exchange) = progress else {
+        let Some(exchange) = progress else {
             let format = order.format();
             if format.status {
                 return SilenceAct::GoOn(Exchange::at_first());
@@ -85,20 +85,15 @@ impl Controller {
         let on = (code == 0) & !mark & control::goes_on(old);
         let next = memory::read_cell(ram, control::block(old), Cell(63));
         let control = if on { next } else { old };
+        let came = Some(Came { code, mark });
         Heard {
-            result: Result::Came {
-                code: code,
-                mark: mark,
-            },
+            result: came,
             controller: Controller {
-                control: control,
+                control,
                 count: self.count,
                 due: on,
-                result: Result::Came {
-                    code: code,
-                    mark: mark,
-                },
-                message: Message::Idle,
+                result: came,
+                message: None,
             },
         }
     }
@@ -114,9 +109,9 @@ impl Controller {
             count: self.count,
             due: self.due,
             result: result,
-            message: Message::Open(OpenMessage {
+            message: Some(OpenMessage {
                 order: order,
-                progress: Progress::Back(exchange),
+                progress: Some(exchange),
             }),
         }
     }
@@ -134,7 +129,7 @@ impl Controller {
                 memory::write_cell(ram, block, Cell(cell), word.value);
                 let order = message.order;
                 Heard {
-                    result: Result::Absent,
+                    result: None,
                     controller: self.go_on(order, exchange),
                 }
             }
@@ -147,16 +142,16 @@ impl Controller {
             ≡ word_step word (desk self ram.old) }
     {
         let held = self.message;
-        let Message::Open(message) = held else {
+        let Some(message) = held else {
             return Heard {
-                result: Result::Absent,
+                result: None,
                 controller: self,
             };
         };
         let here = word.line == control::line(self.control);
         if !here {
             return Heard {
-                result: Result::Absent,
+                result: None,
                 controller: self,
             };
         }
@@ -173,7 +168,7 @@ impl Controller {
             SilenceAct::GoOn(exchange) => {
                 let order = message.order;
                 Heard {
-                    result: Result::Absent,
+                    result: None,
                     controller: self.go_on(order, exchange),
                 }
             }
@@ -187,16 +182,16 @@ impl Controller {
             ≡ silence_step line (desk self ram.now) }
     {
         let held = self.message;
-        let Message::Open(message) = held else {
+        let Some(message) = held else {
             return Heard {
-                result: Result::Absent,
+                result: None,
                 controller: self,
             };
         };
         let here = line == control::line(self.control);
         if !here {
             return Heard {
-                result: Result::Absent,
+                result: None,
                 controller: self,
             };
         }

@@ -5,63 +5,60 @@ ghost use Rattle.formats.specs.Row.{last_cell, highest_cell};
 ghost use Rattle.controller.specs.Row.{wanted_at, words_wanted, with_taken};
 
 use crate::control;
-use crate::state::{Controller, Message, Progress};
+use crate::state::Controller;
 use card::place::Block;
 use exchange::state::{Exchange, Stage};
 use formats::row::Format;
 
 // The data words that the open message waits for.
 #[derive(Clone, Copy)]
-pub enum Wanted {
-    Nothing,
-    Words {
-        block: Block,
-        // the next one's cell, and the cell behind the last
-        cell: u16,
-        end: u16,
-        // line B
-        line: bool,
-        // how many are in
-        taken: u16,
-    },
+pub struct Wanted {
+    pub block: Block,
+    // the next one's cell, and the cell behind the last
+    pub cell: u16,
+    pub end: u16,
+    // line B
+    pub line: bool,
+    // how many are in
+    pub taken: u16,
 }
 
 // Behind a status: the words of its reply that are not in.
-fn wanted_at(control: u16, format: Format, exchange: Exchange) -> Wanted
+fn wanted_at(control: u16, format: Format, exchange: Exchange) -> Option<Wanted>
     requires { last_cell format ≤ highest_cell }
     ensures { result ≡ wanted_at exchange.stage control format exchange.taken }
 {
     let stage = exchange.stage;
     match stage {
-        Stage::Awaiting => Wanted::Nothing,
+        Stage::Awaiting => None,
         Stage::Reply => {
             if format.reply <= exchange.taken {
-                return Wanted::Nothing;
+                return None;
             }
-            Wanted::Words {
+            Some(Wanted {
                 block: control::block(control),
                 cell: format.given + 1 + exchange.taken,
                 end: format.given + 1 + format.reply,
                 line: control::line(control),
                 taken: exchange.taken,
-            }
+            })
         }
-        Stage::AwaitingLast => Wanted::Nothing,
-        Stage::Ended => Wanted::Nothing,
+        Stage::AwaitingLast => None,
+        Stage::Ended => None,
     }
 }
 
 impl Controller {
-    pub fn words_wanted(self) -> Wanted
+    pub fn words_wanted(self) -> Option<Wanted>
         ensures { result ≡ words_wanted self }
     {
         let held = self.message;
-        let Message::Open(message) = held else {
-            return Wanted::Nothing;
+        let Some(message) = held else {
+            return None;
         };
         let progress = message.progress;
-        let Progress::Back(exchange) = progress else {
-            return Wanted::Nothing;
+        let Some(exchange) = progress else {
+            return None;
         };
         let order = message.order;
         wanted_at(self.control, order.format(), exchange)
@@ -72,11 +69,11 @@ impl Controller {
         ensures { result ≡ with_taken taken self }
     {
         let held = self.message;
-        let Message::Open(message) = held else {
+        let Some(message) = held else {
             return self;
         };
         let progress = message.progress;
-        let Progress::Back(exchange) = progress else {
+        let Some(exchange) = progress else {
             return self;
         };
         let order = message.order;

@@ -4,26 +4,25 @@ ghost use Rattle.controller.specs.State.{desk};
 ghost use Rattle.controller.specs.Start.{started_as, order_in, with_order, start_step};
 
 use crate::control;
-use crate::state::{Controller, Message, OpenMessage, Progress, Result};
+use crate::state::{Controller, OpenMessage};
 use card::memory;
 use card::place::{Block, Cell};
 use exchange::order::Order;
 use formats::code;
-use formats::code::Coded;
 use formats::row::Row;
 
 // What a start gives: words are named by their block and count, and shown as a part of the memory.
 #[derive(Clone, Copy)]
-pub enum Given {
-    Nothing,
-    Words { block: Block, count: u16 },
+pub struct Given {
+    pub block: Block,
+    pub count: u16,
 }
 
 // What a start leaves: the number of its refusal, 0 for none, what it gives, and the controller.
 #[derive(Clone, Copy)]
 pub struct Started {
     pub refusal: u8,
-    pub given: Given,
+    pub given: Option<Given>,
     pub controller: Controller,
 }
 
@@ -37,10 +36,10 @@ impl Controller {
             control: self.control,
             count: self.count - 1,
             due: false,
-            result: Result::Absent,
-            message: Message::Open(OpenMessage {
+            result: None,
+            message: Some(OpenMessage {
                 order: order,
-                progress: Progress::Given,
+                progress: None,
             }),
         }
     }
@@ -64,31 +63,29 @@ impl Controller {
             (desk result.controller ram.now)
             ≡ start_step (desk self ram.now) }
     {
-        let message = self.message;
-        let may = self.due & message.is_idle() & (1 <= self.count);
+        let may = self.due & self.message.is_none() & (1 <= self.count);
         if !may {
             return Started {
                 refusal: 0,
-                given: Given::Nothing,
+                given: None,
                 controller: self,
             };
         }
-        let coded = code::coded_by(control::code(self.control));
-        let Coded::Format { row, broadcast } = coded else {
+        let Some(coded) = code::coded_by(control::code(self.control)) else {
             return Started {
                 refusal: 14,
-                given: Given::Nothing,
+                given: None,
                 controller: self,
             };
         };
-        let order = self.order_in(ram, row, broadcast);
+        let order = self.order_in(ram, coded.row, coded.broadcast);
         let format = order.format();
         Started {
             refusal: 0,
-            given: Given::Words {
+            given: Some(Given {
                 block: control::block(self.control),
                 count: format.given,
-            },
+            }),
             controller: self.with_order(order),
         }
     }

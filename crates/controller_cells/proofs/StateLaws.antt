@@ -1,9 +1,10 @@
 -- The laws of `specs/State.antt`: the parts of the state's text in turn, as the code puts them.
 -- Assumes nothing.
 use mathlib.Core.Path.{◌≡◌}
-use mathlib.Core.Bool.{Bool, true, false}
+use mathlib.Core.Bool.{true, false}
 use mathlib.Core.List.{List}
 use Prim.Native.Nat.{ℕ}
+use Rattle.std.proofs.Common.{Option, Some, None}
 use Rattle.formats.specs.declared.row.Row.{Row}
 use Rattle.exchange.specs.declared.order.Order.{Order}
 use Rattle.exchange.specs.declared.state.Stage.{Stage}
@@ -14,13 +15,8 @@ use Rattle.exchange.specs.declared.state.Stage.TheVariants.{
   Ended,
 }
 use Rattle.exchange.specs.declared.state.Exchange.{Exchange}
-use Rattle.controller.specs.declared.state.Result.{Result}
-use Rattle.controller.specs.declared.state.Result.TheVariants.{Absent, Came}
-use Rattle.controller.specs.declared.state.Progress.{Progress}
-use Rattle.controller.specs.declared.state.Progress.TheVariants.{Given, Back}
+use Rattle.controller.specs.declared.state.Came.{Came}
 use Rattle.controller.specs.declared.state.OpenMessage.{OpenMessage}
-use Rattle.controller.specs.declared.state.Message.{Message}
-use Rattle.controller.specs.declared.state.Message.TheVariants.{Idle, Open}
 use Rattle.controller.specs.declared.state.Controller.{Controller}
 use Rattle.lines.specs.Digits.{hex_word, decimal}
 use Rattle.lines.specs.Written.{put}
@@ -48,7 +44,7 @@ pub numbered : (row named : Row) (number : ℕ) → row ≡ named → number ≡
 numbered row named number is counted = rw is counted
 
 module _ {out : List ℕ} {at : ℕ} {after : List ℕ} {next : ℕ} where
-  pub result_none : (result : Result) → result ≡ Absent
+  pub result_none : (result : Option Came) → result ≡ None
       → Fits out at (bytes "result none\n") after next
       → Fits out at (result_text result) after next
   unfolding result_text
@@ -76,13 +72,13 @@ module _ {out : List ℕ} {at : ℕ} {after : List ℕ} {next : ℕ} where
         → Fits out at (part "stage " (stage_text stage)) after next
     stage_ended is fits = rw is fits
 
-  pub progress_given : (progress : Progress) → progress ≡ Given
+  pub progress_given : (progress : Option Exchange) → progress ≡ None
       → Fits out at (bytes "stage given taken 0 mark 0\n") after next
       → Fits out at (progress_text progress) after next
   unfolding progress_text
   progress_given progress is fits = rw is fits
 
-  pub message_idle : (message : Message) → message ≡ Idle
+  pub message_idle : (message : Option OpenMessage) → message ≡ None
       → Fits out at (bytes "open none\n") after next
       → Fits out at (message_text message) after next
   unfolding message_text
@@ -103,16 +99,16 @@ module _ {out : List ℕ} {at : ℕ} {after : List ℕ} {next : ℕ} where
 -- ---- part after part
 
 module _ {out out₁ : List ℕ} {at at₁ : ℕ} where
-  pub result_came : {after : List ℕ} {next : ℕ} (result : Result) (code : ℕ) (mark : Bool)
-      → result ≡ Came code mark
-      → Fits out at (part "result " (decimal code)) out₁ at₁
-      → Fits out₁ at₁ (line "" (mark_text mark)) after next
+  pub result_came : {after : List ℕ} {next : ℕ} (result : Option Came) (came : Came)
+      → result ≡ Some came
+      → Fits out at (part "result " (decimal came.code)) out₁ at₁
+      → Fits out₁ at₁ (line "" (mark_text came.mark)) after next
       → Fits out at (result_text result) after next
   unfolding result_text
-  result_came result code mark is first second = rw is (fits_then first second)
+  result_came result came is first second = rw is (fits_then first second)
 
-  pub message_open : {after : List ℕ} {next : ℕ} (message : Message) (held : OpenMessage)
-      → message ≡ Open held
+  pub message_open : {after : List ℕ} {next : ℕ} (message : Option OpenMessage) (held : OpenMessage)
+      → message ≡ Some held
       → Fits out at (order_text held.order) out₁ at₁
       → Fits out₁ at₁ (progress_text held.progress) after next
       → Fits out at (message_text message) after next
@@ -120,8 +116,8 @@ module _ {out out₁ : List ℕ} {at at₁ : ℕ} where
   message_open message held is first second = rw is (fits_then first second)
 
   module _ {out₂ : List ℕ} {at₂ : ℕ} where
-    pub progress_back : {after : List ℕ} {next : ℕ} (progress : Progress) (answer : Exchange)
-        → progress ≡ Back answer
+    pub progress_back : {after : List ℕ} {next : ℕ} (progress : Option Exchange) (answer : Exchange)
+        → progress ≡ Some answer
         → Fits out at (part "stage " (stage_text answer.stage)) out₁ at₁
         → Fits out₁ at₁ (part "taken " (decimal answer.taken)) out₂ at₂
         → Fits out₂ at₂ (line "mark " (mark_text answer.mark)) after next

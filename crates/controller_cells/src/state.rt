@@ -17,22 +17,22 @@ ghost use Rattle.controller_cells.specs.State.{
   state_text,
 };
 
-use controller::state::{Controller, Message, Progress, Result};
+use controller::state::{Came, Controller, OpenMessage};
 use desk::Run;
 use exchange::order::Order;
-use exchange::state::Stage;
+use exchange::state::{Exchange, Stage};
 use formats::row::Row;
 use shown::{item, text};
 
-fn put_result(out: &mut [u8], at: usize, res: Result) -> usize
+fn put_result(out: &mut [u8], at: usize, res: Option<Came>) -> usize
     ensures { Fits out.old at (result_text res)
         out.new result }
 {
     match res {
-        Result::Absent => text::put_text(out, at, b"result none\n"),
-        Result::Came { code, mark } => {
-            let first = item::put_number(out, at, b"result ", code, b' ');
-            item::put_mark(out, first, b"", mark, b'\n')
+        None => text::put_text(out, at, b"result none\n"),
+        Some(came) => {
+            let first = item::put_number(out, at, b"result ", came.code, b' ');
+            item::put_mark(out, first, b"", came.mark, b'\n')
         }
     }
 }
@@ -86,13 +86,13 @@ fn put_stage(out: &mut [u8], at: usize, stage: Stage) -> usize
 }
 
 // How far the answer has come.
-fn put_progress(out: &mut [u8], at: usize, progress: Progress) -> usize
+fn put_progress(out: &mut [u8], at: usize, progress: Option<Exchange>) -> usize
     ensures { Fits out.old at (progress_text progress)
         out.new result }
 {
     match progress {
-        Progress::Given => text::put_text(out, at, b"stage given taken 0 mark 0\n"),
-        Progress::Back(exchange) => {
+        None => text::put_text(out, at, b"stage given taken 0 mark 0\n"),
+        Some(exchange) => {
             let stage = exchange.stage;
             let first = put_stage(out, at, stage);
             let second = item::put_number(out, first, b"taken ", exchange.taken, b' ');
@@ -101,13 +101,13 @@ fn put_progress(out: &mut [u8], at: usize, progress: Progress) -> usize
     }
 }
 
-fn put_message(out: &mut [u8], at: usize, message: Message) -> usize
+fn put_message(out: &mut [u8], at: usize, message: Option<OpenMessage>) -> usize
     ensures { Fits out.old at (message_text message)
         out.new result }
 {
     match message {
-        Message::Idle => text::put_text(out, at, b"open none\n"),
-        Message::Open(open) => {
+        None => text::put_text(out, at, b"open none\n"),
+        Some(open) => {
             let order = open.order;
             let progress = open.progress;
             let first = put_order(out, at, order);

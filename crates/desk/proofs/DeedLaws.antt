@@ -1,4 +1,5 @@
 -- The laws of `specs/Deed.antt`: a law for each kind of field. Assumes nothing.
+use Rattle.std.proofs.Common.{Option, None}
 use Rattle.std.proofs.Common.{◌≡◌, ℕ, eqb, List}
 use Rattle.bus.specs.declared.word.Word.{Word}
 use Rattle.bus.specs.Word.{word_of}
@@ -7,8 +8,7 @@ use Rattle.recording.specs.declared.field.Field.TheVariants as shared
 use Rattle.recording.specs.Bytes.{with_written}
 use Rattle.recording.specs.Value.{valued_at}
 use Rattle.recording.proofs.WordsLaws.{words_written}
-use Rattle.controller.specs.declared.state.Result.{Result}
-use Rattle.controller.specs.declared.state.Result.TheVariants.{Absent}
+use Rattle.controller.specs.declared.state.Came.{Came}
 use Rattle.controller.specs.declared.state.Controller.{Controller}
 use Rattle.controller.specs.declared.start.Given.{Given}
 use Rattle.controller.specs.State.{desk, at_setup}
@@ -23,7 +23,7 @@ use Rattle.desk.specs.AsCoded.Held.{WordsThere}
 
 -- nothing comes of it
 abbrev quiet : Controller → HeldDone
-quiet controller = record { refusal = 0; answer = Ended Absent; controller = controller }
+quiet controller = record { refusal = 0; answer = Ended None; controller = controller }
 
 -- ---- document 01's fields
 
@@ -31,7 +31,7 @@ module _ (told : SharedField) (window ram : List ℕ) (controller : Controller) 
   abbrev comes : Done
   comes = shared_deed (valued_at window told) (desk controller ram)
 
-  pub word_comes : (marks value time : ℕ) (heard : Word) (result : Result) (left : Controller)
+  pub word_comes : (marks value time : ℕ) (heard : Word) (result : Option Came) (left : Controller)
       (ram' : List ℕ)
       → told ≡ shared.Word marks value time → heard ≡ word_of marks value time
       → heard_as result (desk left ram') ≡ word_step heard (desk controller ram)
@@ -40,7 +40,7 @@ module _ (told : SharedField) (window ram : List ℕ) (controller : Controller) 
   word_comes marks value time heard result left ram' is is_heard same =
       rw (is, ← is_heard, ← same)
 
-  pub silence_comes : (line time : ℕ) (result : Result) (left : Controller)
+  pub silence_comes : (line time : ℕ) (result : Option Came) (left : Controller)
       → told ≡ shared.Silence line time
       → heard_as result (desk left ram) ≡ silence_step (eqb line 1) (desk controller ram)
       → done 0 (Ended result) (desk left ram) ≡ comes
@@ -103,7 +103,7 @@ module _ (told : Field) (window ram : List ℕ) (controller : Controller) where
   unfolding deed_of
   setup_comes control count new left is is_new is_left = rw (is, is_left, is_new)
 
-  pub start_comes : (refusal : ℕ) (given : Given) (left : Controller) → told ≡ Start
+  pub start_comes : (refusal : ℕ) (given : Option Given) (left : Controller) → told ≡ Start
       → started_as refusal given (desk left ram) ≡ start_step (desk controller ram)
       → done refusal (Gave given) (desk left ram) ≡ deed_of window told (desk controller ram)
   unfolding deed_of

@@ -1,4 +1,5 @@
 -- The lines of a run, as the code writes them. Assumes nothing.
+use Rattle.std.proofs.Common.{Option, Some, None}
 use Rattle.std.proofs.Common.{
   ◌≡◌,
   ℕ,
@@ -26,10 +27,8 @@ use Rattle.lines.specs.Lines.{result_line}
 use Rattle.lines.specs.Written.{put, line_written, most_given, given_written}
 use Rattle.lines.proofs.WrittenLaws.{few_given}
 use Rattle.pieces.proofs.LineLaws.{nothing_written}
-use Rattle.controller.specs.declared.state.Result.{Result}
-use Rattle.controller.specs.declared.state.Result.TheVariants.{Absent, Came}
+use Rattle.controller.specs.declared.state.Came.{Came}
 use Rattle.controller.specs.declared.start.Given.{Given}
-use Rattle.controller.specs.declared.start.Given.TheVariants.{Nothing, Words}
 use Rattle.controller.specs.State.{desk_blocks}
 use Rattle.controller.specs.Given as controller
 use Rattle.desk.specs.declared.deed.Answer.{Answer}
@@ -57,40 +56,41 @@ few_given_words ram block count = go (eqb number 0) refl where
       )
   go false is = omega arith
 
-module _ (out : List ℕ) (at : ℕ) (ram : List ℕ) (given : Given) where
-  pub nothing_given : given ≡ Nothing → put at out ≡ line_written out at (given_text ram given)
+module _ (out : List ℕ) (at : ℕ) (ram : List ℕ) (given : Option Given) where
+  pub nothing_given : given ≡ None → put at out ≡ line_written out at (given_text ram given)
   nothing_given is = rw is (nothing_written out at)
 
-  pub words_given_lem : (next : ℕ) (after : List ℕ) (block : Block) (count : ℕ) (words : List ℕ)
-      → given ≡ Words block count → words ≡ controller.given_part ram block count
+  pub words_given_lem : (next : ℕ) (after : List ℕ) (told : Given) (words : List ℕ)
+      → given ≡ Some told → words ≡ controller.given_part ram told.block told.count
       → put next after ≡ given_written out at words
       → put next after ≡ line_written out at (given_text ram given)
-  words_given_lem next after block count words is is_words is_put =
+  words_given_lem next after told words is is_words is_put =
       rw (is, is_put, is_words)
-      (few_given out at (controller.given_part ram block count) (few_given_words ram block count))
+      (few_given out at (controller.given_part ram told.block told.count)
+      (few_given_words ram told.block told.count))
 
 pub ruleset given_lines = (nothing_given, words_given_lem)
 
 -- ---- the result, and either
 
 module _ (out : List ℕ) (at : ℕ) where
-  pub no_result : (result : Result) → result ≡ Absent
+  pub no_result : (result : Option Came) → result ≡ None
       → put at out ≡ line_written out at (result_text result)
   no_result result is = rw is (nothing_written out at)
 
   module _ (next : ℕ) (after : List ℕ) where
-    pub result_came : (result : Result) (code : ℕ) (mark : Bool) → result ≡ Came code mark
-        → put next after ≡ line_written out at (result_line code mark)
+    pub result_came : (result : Option Came) (came : Came) → result ≡ Some came
+        → put next after ≡ line_written out at (result_line came.code came.mark)
         → put next after ≡ line_written out at (result_text result)
-    result_came result code mark is is_put = rw is is_put
+    result_came result came is is_put = rw is is_put
 
     module _ (ram : List ℕ) (answer : Answer) where
-      pub gave_line : (given : Given) → answer ≡ Gave given
+      pub gave_line : (given : Option Given) → answer ≡ Gave given
           → put next after ≡ line_written out at (given_text ram given)
           → put next after ≡ line_written out at (answer_line ram answer)
       gave_line given is is_put = rw is is_put
 
-      pub ended_line : (result : Result) → answer ≡ Ended result
+      pub ended_line : (result : Option Came) → answer ≡ Ended result
           → put next after ≡ line_written out at (result_text result)
           → put next after ≡ line_written out at (answer_line ram answer)
       ended_line result is is_put = rw is is_put

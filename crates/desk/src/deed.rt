@@ -1,8 +1,7 @@
 // What a field does: a setup makes the controller anew, a start gives words, a word or a silence
 // comes back, a write goes to the memory.
-ghost use Rattle.std.specs.Prelude.{◌≡◌};
+ghost use Rattle.std.specs.Prelude.{◌≡◌, None};
 ghost use Rattle.recording.specs.Value.{valued_at};
-ghost use Rattle.controller.specs.declared.state.Result.TheVariants.{Absent};
 ghost use Rattle.controller.specs.State.{desk};
 ghost use Rattle.desk.specs.declared.field.Field.TheVariants.{Shared};
 ghost use Rattle.desk.specs.declared.deed.Answer.TheVariants.{Ended};
@@ -12,16 +11,16 @@ ghost use Rattle.desk.specs.AsCoded.Held.{WordsThere};
 use crate::field::Field;
 use bus::word;
 use controller::start::Given;
-use controller::state::{Controller, Result};
+use controller::state::{Came, Controller};
 use recording;
 
 // What comes of a field.
 #[derive(Clone, Copy)]
 pub enum Answer {
     // a start: the words that it gives
-    Gave(Given),
+    Gave(Option<Given>),
     // the result where a message ends
-    Ended(Result),
+    Ended(Option<Came>),
 }
 
 // What a field leaves: the number of a refusal, 0 for none, what comes of it, and the controller.
@@ -35,11 +34,11 @@ pub struct Done {
 // Nothing comes of it.
 fn quietly(controller: Controller) -> Done
     ensures { result
-        ≡ record { refusal = 0; answer = Ended Absent; controller = controller } }
+        ≡ record { refusal = 0; answer = Ended None; controller = controller } }
 {
     Done {
         refusal: 0,
-        answer: Answer::Ended(Result::Absent),
+        answer: Answer::Ended(None),
         controller: controller,
     }
 }

@@ -6,28 +6,26 @@ ghost use Rattle.desk.specs.Deed.{given_text, result_text, answer_line};
 use crate::deed::Answer;
 use controller::given;
 use controller::start::Given;
-use controller::state::Result;
+use controller::state::Came;
 use lines;
 
-fn put_given(out: &mut [u8], at: usize, ram: &[u16], words: Given) -> usize
+fn put_given(out: &mut [u8], at: usize, ram: &[u16], words: Option<Given>) -> usize
     ensures { put result out.new
         ≡ line_written out.old at (given_text ram.now words) }
 {
     match words {
-        Given::Nothing => at,
-        Given::Words { block, count } => {
-            lines::given_line(out, at, given::part(ram, block, count))
-        }
+        None => at,
+        Some(words) => lines::given_line(out, at, given::part(ram, words.block, words.count)),
     }
 }
 
-fn put_result(out: &mut [u8], at: usize, res: Result) -> usize
+fn put_result(out: &mut [u8], at: usize, res: Option<Came>) -> usize
     ensures { put result out.new
         ≡ line_written out.old at (result_text res) }
 {
     match res {
-        Result::Absent => at,
-        Result::Came { code, mark } => lines::result_line(out, at, code, mark),
+        None => at,
+        Some(came) => lines::result_line(out, at, came.code, came.mark),
     }
 }
 

@@ -6,14 +6,21 @@ use Rattle.std.proofs.Common.{
   [],
   ◌∷◌,
   get_or,
+  true,
+  false,
   Option,
   Some,
   None,
+  Result,
+  Ok,
+  Err,
   refl,
   sym,
   ◌∙◌,
   ap,
 }
+use Rattle.std.specs.Option.{is_some}
+use Rattle.rules.proofs.Clash.{clash}
 use Rattle.refusals.specs.declared.Refusal.{Refusal}
 use Rattle.refusals.specs.declared.Refusal.TheVariants.{
   Memory,
@@ -28,7 +35,7 @@ use Rattle.refusals.specs.declared.Refusal.TheVariants.{
   Room,
   Format,
 }
-use Rattle.refusals.specs.Number.{number_of, refusal_in}
+use Rattle.refusals.specs.Number.{number_of, refusal_in, refused}
 
 -- the refusal of a number
 abbrev refusal_of : ℕ → Option Refusal
@@ -58,3 +65,25 @@ told (Some refusal) = numbered refusal
 
 pub same_refusal : (one other : Option Refusal) → refusal_in one ≡ refusal_in other → one ≡ other
 same_refusal one other same = sym (told one) ∙ ap refusal_of same ∙ told other
+
+-- ---- whether there is one
+
+pub some_refused : (perhaps : Option Refusal) → is_some perhaps ≡ true → refusal_in perhaps ≡ 0 → ⊥
+some_refused None is none = absurd (clash (cc))
+some_refused (Some refusal) is none =
+    let nothing : Some refusal ≡ None = same_refusal (Some refusal) None none in
+    absurd (clash (cc))
+
+pub none_refused : (perhaps : Option Refusal) → is_some perhaps ≡ false → refusal_in perhaps ≡ 0
+none_refused None is = refl
+none_refused (Some refusal) is = absurd (clash (cc))
+
+-- ---- an action that gives nothing back: its number tells what it answered
+
+pub same_outcome : (one other : Result Unit Refusal) → refused one ≡ refused other → one ≡ other
+same_outcome (Ok done) (Ok done') same = refl
+same_outcome (Ok done) (Err refusal) same = absurd (some_refused (Some refusal) refl (sym same))
+same_outcome (Err refusal) (Ok done) same = absurd (some_refused (Some refusal) refl same)
+same_outcome (Err refusal) (Err refusal') same =
+    let both : Some refusal ≡ Some refusal' = same_refusal (Some refusal) (Some refusal') same in
+    cc
