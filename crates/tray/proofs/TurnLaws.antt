@@ -10,6 +10,12 @@ use Rattle.std.proofs.Common.{
   ◌<◌,
   ◌≤◌,
   Bool,
+  Option,
+  Some,
+  None,
+  Result,
+  Ok,
+  Err,
   List,
   length,
   sym,
@@ -17,15 +23,16 @@ use Rattle.std.proofs.Common.{
   ◌∙◌,
   arith,
 }
+use Rattle.refusals.specs.Number.{number_of}
 use Rattle.terminal.specs.Event.{shown}
 use Rattle.terminal.specs.State.{card_of}
 use Rattle.recording.specs.declared.field.Field.{Field}
 use Rattle.recording.specs.declared.seen.Seen.{Seen}
 use Rattle.recording.specs.declared.field.Field.TheVariants.{HostWrite}
-use Rattle.recording.specs.declared.reading.Reading.{Reading}
-use Rattle.recording.specs.declared.reading.Reading.TheVariants.{Taken, End, Refused}
 use Rattle.recording.specs.Seen.{seen_after}
-use Rattle.recording.specs.Reading.{read_at}
+use Rattle.recording.specs.declared.reading.Taken.{Taken as FieldTaken}
+use Rattle.recording.specs.declared.reading.Refused.{Refused as FieldRefused}
+use Rattle.recording.specs.Reading.{Reading, Taken, read_at, reading}
 use Rattle.recording.specs.Value.{valued_at}
 use Rattle.recording.proofs.TakenLaws.{taken_within}
 use Rattle.recording.proofs.InOrder.{taken_in_order}
@@ -41,6 +48,10 @@ use Rattle.tray.specs.Happening.{happening_of, happened}
 use Rattle.tray.specs.Run.{answer_line, taking, taking_line, met_by, tray_course}
 use Rattle.tray.specs.AsCoded.Window.{Passed, takes, turn}
 use Rattle.tray.specs.AsCoded.Held.{tray_of, passed_of, WordsThere, WasRead}
+
+-- what the reader answers
+abbrev Answer : Type 0
+Answer = Result (Option FieldTaken) FieldRefused
 
 -- ---- a field that is taken
 
@@ -70,12 +81,14 @@ module _ (ran : HeldPassed) (places ram out window : List ℕ) (told : Field) (n
       rw (← is_left, ← is_put, is_seen, is_fields, is_offset)
 
 -- a field that was read has its words in the window, and ends further on
-pub reads_on : (window : List ℕ) (at : ℕ) (seen : Seen) (reading : Reading) (told : Field)
-    (next : ℕ)
-    → reading ≡ read_at window at seen → reading ≡ Taken told next
-    → WasRead window told at next
-reads_on window at seen reading told next is_reading is =
-    let taken : read_at window at seen ≡ Taken told next = sym is_reading ∙ is in
+pub reads_on : (window : List ℕ) (at : ℕ) (seen : Seen) (answer : Answer)
+    (found : Option FieldTaken) (told : FieldTaken)
+    → reading answer ≡ read_at window at seen → answer ≡ Ok found → found ≡ Some told
+    → WasRead window told.field at told.next
+reads_on window at seen answer found told is_reading is some =
+    let next : ℕ = told.next in
+    let taken : read_at window at seen ≡ Taken told.field next =
+    rw (is, some) at (sym is_reading) in
     record {
       words =
           record {
@@ -115,35 +128,38 @@ module _ (ran : HeldPassed) (places ram out window : List ℕ) (last : Bool) (ro
   turn_full left short is_left =
       rw is_left (general.turn_full tray_course window last before (rw is_room at short))
 
-  module _ (reading : Reading) (enough : line_room ≤ room)
-      (is_reading : reading ≡ read_at window ran.at ran.tray.seen) where
+  module _ (answer : Answer) (enough : line_room ≤ room)
+      (is_reading : reading answer ≡ read_at window ran.at ran.tray.seen) where
     turn_by : pieces.passing tray_course
-        (met_by reading window ran.at (tray_of ran.tray places ram)) last before
+        (met_by (reading answer) window ran.at (tray_of ran.tray places ram)) last before
         ≡ turn window last before
     unfolding tray_course
     turn_by =
         general.turn_by tray_course window last before (rw is_room at enough)
         (ap (λ (any : Reading). met_by any window ran.at before.run) (sym is_reading))
 
-    pub turn_takes : (told : Field) (next : ℕ) (new : Passed) → reading ≡ Taken told next
-        → new ≡ takes window told next before → new ≡ turn window last before
+    pub turn_takes : (found : Option FieldTaken) (told : FieldTaken) (new : Passed)
+        → answer ≡ Ok found → found ≡ Some told
+        → new ≡ takes window told.field told.next before → new ≡ turn window last before
     unfolding pieces.passing met_by takes
-    turn_takes told next new is is_new = rw (← turn_by, is) is_new
+    turn_takes found told new is some is_new = rw (← turn_by, is, some) is_new
 
     module _ (left : HeldPassed) (put' : ℕ) (stop : Stop) (out' : List ℕ)
         (is_left : left ≡ record { tray = ran.tray; at = ran.at; put = put'; stop = stop }) where
-      pub turn_ends : reading ≡ End
+      pub turn_ends : (found : Option FieldTaken) → answer ≡ Ok found → found ≡ None
           → pieces.stopped (put put' out') stop
           ≡ pieces.stopped_at 0 last ran.tray.fields ran.tray.offset out ran.put
           → passed_of left places ram out' ≡ turn window last before
       unfolding pieces.passing met_by tray_course
-      turn_ends is is_stopped = rw (← turn_by, is, is_left, ← is_stopped)
+      turn_ends found is none is_stopped = rw (← turn_by, is, none, is_left, ← is_stopped)
 
-      pub turn_refuses : (number place : ℕ) → reading ≡ Refused number place
+      pub turn_refuses : (number : ℕ) (refused : FieldRefused) → answer ≡ Err refused
+          → number ≡ number_of refused.refusal
           → pieces.stopped (put put' out') stop
           ≡ pieces.stopped_at number last ran.tray.fields ran.tray.offset out ran.put
           → passed_of left places ram out' ≡ turn window last before
       unfolding pieces.passing met_by tray_course
-      turn_refuses number place is is_stopped = rw (← turn_by, is, is_left, ← is_stopped)
+      turn_refuses number refused is is_number is_stopped =
+          rw (← turn_by, is, ← is_number, is_left, ← is_stopped)
 
 pub ruleset turning = (turn_full, turn_takes, turn_ends, turn_refuses)

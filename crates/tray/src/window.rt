@@ -9,7 +9,7 @@ use lines;
 use pieces;
 use pieces::Stop;
 use recording;
-use recording::{Field, Reading};
+use recording::Field;
 use std::num;
 
 // What a call leaves: the run, the place in the window, and how many bytes of lines there are.
@@ -95,17 +95,15 @@ fn turn(
     }
     let tray = passed.tray;
     let seen = tray.seen;
-    let reading = recording::read_field(window, passed.at, seen);
-    match reading {
-        Reading::Taken { field, next } => {
-            take_field(passed, places, ram, window, out, field, next)
-        }
-        Reading::End => {
+    match recording::read_field(window, passed.at, seen) {
+        Ok(Some(taken)) => take_field(passed, places, ram, window, out, taken.field, taken.next),
+        Ok(None) => {
             let end = pieces::stop_at(out, passed.put, 0, last, tray.fields, tray.offset);
             let stop = end.stop;
             passed.with_stop(end.put, stop)
         }
-        Reading::Refused { number, place: _ } => {
+        Err(refused) => {
+            let number = u8::from(refused.refusal);
             let end = pieces::stop_at(out, passed.put, number, last, tray.fields, tray.offset);
             let stop = end.stop;
             passed.with_stop(end.put, stop)

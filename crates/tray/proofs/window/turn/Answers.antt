@@ -9,11 +9,11 @@ returns-then-left_from-lt-LINE_ROOM c = search (rules, turning) depth 9
 pub take_field-requires : goal.take_field-requires
 take_field-requires c = search (rules, reads_on) depth 9
 
-pub returns-in-Taken : goal.returns-in-Taken
-returns-in-Taken c = search (rules, turning) depth 9
+pub returns-in-Ok-Some : goal.returns-in-Ok-Some
+returns-in-Ok-Some c = search (rules, turning) depth 9
 
-pub returns-in-End : goal.returns-in-End
-returns-in-End c = search (rules, turning) depth 9
+pub returns-in-Ok-None : goal.returns-in-Ok-None
+returns-in-Ok-None c = search (rules, turning) depth 9
 
-pub returns-in-Refused : goal.returns-in-Refused
-returns-in-Refused c = search (rules, turning) depth 9
+pub returns-in-Err : goal.returns-in-Err
+returns-in-Err c = search (rules, turning) depth 9

@@ -1,7 +1,7 @@
--- `desk::reading::own_refusal` meets its contract, by the cases of its tests. Assumes nothing.
+-- `desk::reading::own_stands` meets its contract, by the cases of its tests. Assumes nothing.
 use Rattle.std.proofs.Common.{rules}
 use Rattle.desk.proofs.ReadingLaws.{own_refusals}
-use Rattle.desk.proofs.reading.own_refusal.Goals as goal
+use Rattle.desk.proofs.reading.own_stands.Goals as goal
 
 pub returns-then-left-lt3 : goal.returns-then-left-lt3
 returns-then-left-lt3 c = search (rules, own_refusals)
