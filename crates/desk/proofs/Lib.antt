@@ -1,7 +1,6 @@
 -- The mathematics of a controller's run.
 --     ReadingLaws    how the code comes to each reading
 --     TakenLaws      what a reading tells of the bytes
---     DeedLaws       what each kind of field does
 --     LineLaws       the lines, as the code writes them
 --     TurnLaws       one field of a window
 --     RowTurns       a row of data words, taken at once, is as many turns
@@ -9,7 +8,6 @@
 --     Determined     each public contract allows one outcome alone
 pub mod ReadingLaws
 pub mod TakenLaws
-pub mod DeedLaws
 pub mod LineLaws
 pub mod TurnLaws
 pub mod RowTurns
