@@ -42,7 +42,7 @@ module _ (state : Controller) (order : Order) (mark : Bool) where
       → word_step heard (reply_at taken ram)
       ≡ heard_as None (reply_at (taken + 1)
       (with_cell ram block (the_cell (reply_cell (format_for order) + taken)) heard.value))
-  unfolding word_step word_met word_done on_word word_heard data_heard with_message
+  unfolding word_step on_word word_heard data_heard with_message
   word_is_stored heard taken ram is more =
       rw (
         is.same_line,

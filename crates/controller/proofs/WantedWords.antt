@@ -166,7 +166,8 @@ module _ (state : Controller) (wanted : Wanted) (told : WantedTold state wanted)
   where
     told_reply : desk state ram ≡ reply_at state told.order told.mark wanted.taken ram
     unfolding with_message
-    told_reply = ap (λ (held : Option OpenMessage). desk (with_message held state) ram) told.is_open
+    told_reply =
+        ap (λ (held : Option OpenMessage). desk (with_message held state) ram) told.is_open
 
     pub told_wants : WantsWords wanted.line (wanted.end - wanted.cell) (desk state ram)
     told_wants =
@@ -182,7 +183,8 @@ module _ (state : Controller) (wanted : Wanted) (told : WantedTold state wanted)
         }
 
     -- so many words more can be counted
-    pub told_fits : (words : ℕ) → words ≤ wanted.end - wanted.cell → wanted.taken + words ≤ 65535
+    pub told_fits : (words : ℕ) → words ≤ wanted.end - wanted.cell
+        → wanted.taken + words ≤ 65535
     told_fits words few =
         omega (
           arith,
@@ -197,12 +199,14 @@ module _ (state : Controller) (wanted : Wanted) (told : WantedTold state wanted)
         → desk (with_taken count state) ram ≡ reply_at state told.order told.mark count ram
     unfolding with_taken
     taken_so count =
-        ap (λ (held : Option OpenMessage). desk (with_message (message_with count held) state) ram) told.is_open
+        ap (λ (held : Option OpenMessage).
+        desk (with_message (message_with count held) state) ram) told.is_open
 
     -- a row of the words that are wanted, stored at once
     pub wanted_row_is_words : (row : List Word) → DataWords wanted.line row
         → length row ≤ wanted.end - wanted.cell
-        → row_stored row wanted.cell wanted.taken (desk state ram) ≡ words_step row (desk state ram)
+        → row_stored row wanted.cell wanted.taken (desk state ram)
+        ≡ words_step row (desk state ram)
     wanted_row_is_words row are few =
         ap (λ (any : Desk). desk any.state (with_cells ram (block_in state.control) wanted.cell
         (values_of row))) (taken_so (wanted.taken + length row))

@@ -56,7 +56,7 @@ module _ (word : Word) (old : Desk) (message : OpenMessage)
     (is_open : old.state.message ≡ Some message) where
   act_writes : (act : WordAct) → BehindGiven message.order act
       → WritesOnlyBack old (word_done act message word old).desk
-  unfolding word_done ended
+  unfolding ended
   act_writes (Fault code) behind =
       nothing_written old (word_done (Fault code) message word old).desk refl
   act_writes (Take cell next) (taken least most) =
@@ -84,9 +84,9 @@ module _ (word : Word) (old : Desk) (message : OpenMessage)
       by_test (BehindGiven message.order) (not word.sound) (λ is. not_taken) (λ is. not_taken)
   in_progress (Some so_far) = stored_behind_given message.order so_far word
 
-met_writes : (word : Word) (old : Desk) (message : Option OpenMessage) → old.state.message ≡ message
+met_writes : (word : Word) (old : Desk) (message : Option OpenMessage)
+    → old.state.message ≡ message
     → WritesOnlyBack old (word_met message word old).desk
-unfolding word_met
 met_writes word old None is = nothing_written old old refl
 met_writes word old (Some message) is =
     by_test (λ (heard : Heard). WritesOnlyBack old heard.desk)
@@ -105,14 +105,13 @@ word_writes_only_back word old = met_writes word old old.state.message refl
 
 act_silent : (act : SilenceAct) (message : OpenMessage) (old : Desk)
     → (silence_done act message old).desk.ram ≡ old.ram
-unfolding silence_done ended
+unfolding ended
 act_silent (silent.Fault code) message old = refl
 act_silent (GoOn next) message old = refl
 act_silent End message old = refl
 
 met_silent : (message : Option OpenMessage) (line : Bool) (old : Desk)
     → (silence_met message line old).desk.ram ≡ old.ram
-unfolding silence_met
 met_silent None line old = refl
 met_silent (Some message) line old =
     by_test (λ (heard : Heard). heard.desk.ram ≡ old.ram)
@@ -127,7 +126,6 @@ silence_writes_nothing line old = met_silent old.state.message line old
 
 code_writes_nothing : (coded : Option Coded) (old : Desk)
     → (starting_by coded old).desk.ram ≡ old.ram
-unfolding starting_by starting
 code_writes_nothing (Some coded) old = refl
 code_writes_nothing None old = refl
 

@@ -85,7 +85,7 @@ word_in (Some so_far) order word = exchange.on_word order so_far word
 
 -- a word that is taken is stored in the cell of its number on the bus; one that brings a fault is
 -- not
-unfoldable pub word_done : WordAct → OpenMessage → Word → Desk → Heard
+abbrev pub word_done : WordAct → OpenMessage → Word → Desk → Heard
 word_done (heard.Fault code) message word old = ended code (mark_of message.progress) old
 word_done (Take cell so_far) message word old =
     going_on message.order so_far
@@ -93,7 +93,7 @@ word_done (Take cell so_far) message word old =
     (with_cell old.ram (block_in old.state.control) (the_cell cell) word.value))
 
 -- only words of the message's line have an effect
-unfoldable pub word_met : Option OpenMessage → Word → Desk → Heard
+abbrev pub word_met : Option OpenMessage → Word → Desk → Heard
 word_met None word old = unheard old
 word_met (Some message) word old =
     cond (beq word.line (line_in old.state.control))
@@ -115,12 +115,12 @@ abbrev pub silence_in : Option Exchange → Order → SilenceAct
 silence_in None order = cond (format_for order).status (GoOn exchange.at_first) End
 silence_in (Some so_far) order = exchange.on_silence order so_far
 
-unfoldable pub silence_done : SilenceAct → OpenMessage → Desk → Heard
+abbrev pub silence_done : SilenceAct → OpenMessage → Desk → Heard
 silence_done (silent.Fault code) message old = ended code (mark_of message.progress) old
 silence_done (GoOn so_far) message old = going_on message.order so_far old
 silence_done End message old = ended 0 (mark_of message.progress) old
 
-unfoldable pub silence_met : Option OpenMessage → Bool → Desk → Heard
+abbrev pub silence_met : Option OpenMessage → Bool → Desk → Heard
 silence_met None line old = unheard old
 silence_met (Some message) line old =
     cond (beq line (line_in old.state.control))

@@ -46,14 +46,14 @@ with_order order state =
     }
 
 -- its words are those from the block's cell 0 on, as many as the table says
-unfoldable pub starting : Order → Desk → Started
+abbrev pub starting : Order → Desk → Started
 starting order old =
     started_as 0
     (Some (record { block = block_in old.state.control; count = (format_for order).given }))
     (desk (with_order order old.state) old.ram)
 
 -- 14 for a code that the table lacks
-unfoldable pub starting_by : Option Coded → Desk → Started
+abbrev pub starting_by : Option Coded → Desk → Started
 starting_by (Some coded) old = starting (order_in coded.row coded.broadcast old) old
 starting_by None old = started_as 14 None old
 

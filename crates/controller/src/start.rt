@@ -1,5 +1,6 @@
 // Start: what is given to the bus.
 ghost use Rattle.std.specs.Prelude.{◌≡◌, ◌≤◌};
+ghost use Rattle.refusals.specs.Number.{refused, outcome_in};
 ghost use Rattle.controller.specs.State.{desk};
 ghost use Rattle.controller.specs.Start.{started_as, order_in, with_order, start_step};
 
@@ -10,6 +11,7 @@ use card::place::{Block, Cell};
 use exchange::order::Order;
 use formats::code;
 use formats::row::Row;
+use refusals::Refusal;
 
 // What a start gives: words are named by their block and count, and shown as a part of the memory.
 #[derive(Clone, Copy)]
@@ -18,75 +20,51 @@ pub struct Given {
     pub count: u16,
 }
 
-// What a start leaves: the number of its refusal, 0 for none, what it gives, and the controller.
-#[derive(Clone, Copy)]
-pub struct Started {
-    pub refusal: u8,
-    pub given: Option<Given>,
-    pub controller: Controller,
-}
-
 impl Controller {
     // The message of an order is open and no longer due, and one start fewer is left.
-    fn with_order(self, order: Order) -> Controller
-        requires { 1 ≤ self.count }
-        ensures { result ≡ with_order order self }
+    #[tactic(auto, unfolding(crate::specs::Start::with_order))]
+    fn open(&mut self, order: Order)
+        requires { 1 ≤ self.old.count }
+        ensures { self.new ≡ with_order order self.old }
     {
-        Controller {
-            control: self.control,
-            count: self.count - 1,
-            due: false,
-            result: None,
-            message: Some(OpenMessage {
-                order: order,
-                progress: None,
-            }),
-        }
+        self.count -= 1;
+        self.due = false;
+        self.result = None;
+        self.message = Some(OpenMessage {
+            order,
+            progress: None,
+        });
     }
 
     // The order of a row: the commands are those of cells 0 and 1 now.
-    fn order_in(self, ram: &[u16], row: Row, broadcast: bool) -> Order
-        ensures { result ≡ order_in row broadcast (desk self ram.now) }
+    fn order_in(&self, ram: &[u16], row: Row, broadcast: bool) -> Order
+        ensures { result ≡ order_in row broadcast (desk self.now ram.now) }
     {
         let block = control::block(self.control);
         Order {
-            row: row,
-            broadcast: broadcast,
+            row,
+            broadcast,
             first: memory::read_cell(ram, block, Cell(0)),
             second: memory::read_cell(ram, block, Cell(1)),
         }
     }
 
-    // A start, over a memory of any length.
-    pub fn begin(self, ram: &[u16]) -> Started
-        ensures { started_as result.refusal result.given
-            (desk result.controller ram.now)
-            ≡ start_step (desk self ram.now) }
+    // A start, over a memory of any length: what is to be given to the bus.
+    #[tactic(auto, unfolding(crate::specs::Start::start_step, crate::specs::Start::with_order))]
+    pub fn begin(&mut self, ram: &[u16]) -> Result<Option<Given>, Refusal>
+        ensures { started_as (refused result) (outcome_in result)
+            (desk self.new ram.now)
+            ≡ start_step (desk self.old ram.now) }
     {
-        let may = self.due & self.message.is_none() & (1 <= self.count);
-        if !may {
-            return Started {
-                refusal: 0,
-                given: None,
-                controller: self,
-            };
+        if !self.due || self.message.is_some() || self.count == 0 {
+            return Ok(None);
         }
-        let Some(coded) = code::coded_by(control::code(self.control)) else {
-            return Started {
-                refusal: 14,
-                given: None,
-                controller: self,
-            };
-        };
+        let coded = code::coded_by(control::code(self.control)).ok_or(Refusal::Format)?;
         let order = self.order_in(ram, coded.row, coded.broadcast);
-        let format = order.format();
-        Started {
-            refusal: 0,
-            given: Some(Given {
-                block: control::block(self.control),
-                count: format.given,
-            }),
-            controller: self.with_order(order),
-        }
+        self.open(order);
+        Ok(Some(Given {
+            block: control::block(self.control),
+            count: order.format().given,
+        }))
     }
 }

@@ -14,5 +14,5 @@ mod run;
 mod runner;
 
 pub use field::Field;
-pub use reading::{Reading, read_field};
+pub use reading::{Taken, read_field};
 pub use run::Run;

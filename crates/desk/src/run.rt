@@ -21,6 +21,7 @@ impl Run {
     ghost use Rattle.desk.specs.AsCoded.Held.{held_at_start};
 
     // Before the first field: the controller may start nothing.
+    #[tactic(auto, unfolding(crate::specs::AsCoded::Held::held_at_start))]
     pub fn at_start() -> Run
         ensures { result ≡ held_at_start }
     {

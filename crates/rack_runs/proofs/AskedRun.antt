@@ -76,7 +76,7 @@ opened_in other None = other
 opened_in other (Some message) = message.order
 
 same_order : (old : Desk) (one other : Order) → starting one old ≡ starting other old → one ≡ other
-unfolding starting with_order
+unfolding with_order
 same_order old one other same =
     ap (λ (started : Started). opened_in one started.desk.state.message) same
 

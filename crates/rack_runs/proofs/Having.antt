@@ -19,7 +19,7 @@ use Rattle.formats.specs.declared.row.Row.{Row}
 use Rattle.formats.specs.Code.{format, coded_by}
 use Rattle.controller.specs.Control.{code_in}
 use Rattle.controller.specs.State.{Desk}
-use Rattle.controller.specs.Start.{may_start, order_in, starting, starting_by, start_step}
+use Rattle.controller.specs.Start.{may_start, order_in, starting, start_step}
 use Rattle.controller.specs.Actions.{whole_desk, start_action}
 use Rattle.rack.specs.Terminals.{Each, EachOf, Different}
 use Rattle.rack.specs.Asked.{IsIdle, opened_for, Ready, Addressed}
@@ -30,7 +30,7 @@ use Rattle.rack.specs.Asked.{IsIdle, opened_for, Ready, Addressed}
 pub starts_by : (row : Row) (broadcast : Bool) (old : Desk) → whole_desk old ≡ true
     → may_start old.state ≡ true → coded_by (code_in old.state.control) ≡ format row broadcast
     → start_action old ≡ starting (order_in row broadcast old) old
-unfolding start_action start_step starting_by
+unfolding start_action start_step
 starts_by row broadcast old whole may_start_lem coded = rw (whole, may_start_lem, coded)
 
 pub idle_by : {terminal : Card} → length terminal.ram ≡ card_words → fit_card terminal ≡ true

@@ -15,6 +15,7 @@
 --     ValueLaws      the values of a field, wherever it stands
 --     AcceptedLaws   the reader takes one row of fields alone
 --     CutLaws        accepted bytes cut at the end of a field
+--     AnswerLaws     an answer of the reader tells all of a reading
 --     Determined     each public contract allows one outcome alone
 --     Examples       the definitions at work, by computation
 mod Theorems
@@ -33,5 +34,6 @@ pub mod Shifted
 pub mod ValueLaws
 pub mod AcceptedLaws
 pub mod CutLaws
+pub mod AnswerLaws
 pub mod Determined
 mod Examples

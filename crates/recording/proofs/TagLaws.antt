@@ -1,6 +1,6 @@
 -- The laws of `specs/Tag.antt`: the sizes that fit each tag. Assumes nothing.
-use mathlib.Core.Path.{◌≡◌, sym}
-use mathlib.Core.Bool.{Bool, true, ◌&&◌, true≢false}
+use mathlib.Core.Path.{◌≡◌}
+use mathlib.Core.Bool.{Bool, true, ◌&&◌}
 use Prim.Native.Nat.{ℕ, ◌%◌, ◌≤◌}
 use native.Mathlib.Omega.{arith}
 use lib.Dec.{eqb, leb}
@@ -15,7 +15,6 @@ use Rattle.recording.specs.declared.tag.Tag.TheVariants.{
   HostWrite,
   MoveTable,
   SetFlags,
-  Unknown,
 }
 use Rattle.recording.specs.Tag.{length_fits}
 
@@ -53,4 +52,3 @@ size_at_most ReadQueue size is = omega (arith, eqb-true size 0 is)
 size_at_most HostWrite size is = (write_size size is).at_most
 size_at_most MoveTable size is = omega (arith, eqb-true size 1 is)
 size_at_most SetFlags size is = omega (arith, eqb-true size 1 is)
-size_at_most Unknown size is = absurd (true≢false (sym is))

@@ -35,7 +35,7 @@ use Rattle.refusals.specs.declared.Refusal.TheVariants.{
   Room,
   Format,
 }
-use Rattle.refusals.specs.Number.{number_of, refusal_in, refused}
+use Rattle.refusals.specs.Number.{number_of, refusal_in, refused, outcome_in}
 
 -- the refusal of a number
 abbrev refusal_of : ℕ → Option Refusal
@@ -87,3 +87,23 @@ same_outcome (Err refusal) (Ok done) same = absurd (some_refused (Some refusal) 
 same_outcome (Err refusal) (Err refusal') same =
     let both : Some refusal ≡ Some refusal' = same_refusal (Some refusal) (Some refusal') same in
     cc
+
+-- ---- an action that may give something back: its number and that tell what it answered
+
+-- the answer of a refusal and what is given back
+abbrev answer_of : {A : Type 0} → Option Refusal → Option A → Result (Option A) Refusal
+answer_of None outcome = Ok outcome
+answer_of (Some refusal) outcome = Err refusal
+
+answered : {A : Type 0} (answer : Result (Option A) Refusal)
+    → answer_of (refusal_of (refused answer)) (outcome_in answer) ≡ answer
+answered (Ok outcome) = refl
+answered (Err refusal) = ap (λ (any : Option Refusal). answer_of any None) (numbered refusal)
+
+pub same_answer : {A : Type 0} (one other : Result (Option A) Refusal)
+    → refused one ≡ refused other → outcome_in one ≡ outcome_in other → one ≡ other
+same_answer {A} one other same_number same_outcome =
+    sym (answered one)
+    ∙ ap (λ (any : ℕ). answer_of (refusal_of any) (outcome_in one)) same_number
+    ∙ ap (λ (any : Option A). answer_of (refusal_of (refused other)) any) same_outcome
+    ∙ answered other

@@ -1,10 +1,9 @@
 -- What a row of data words is to a run: as many turns, and nothing is printed (`TurnsTaken` of
 -- `pieces`). Definitions only. Assumes nothing.
-use Rattle.std.specs.Prelude.{◌≡◌, Bool, List, [], ◌∷◌, ℕ, suc, ◌+◌}
+use Rattle.std.specs.Prelude.{◌≡◌, Bool, Some, List, [], ◌∷◌, ℕ, suc, ◌+◌}
 use Rattle.bus.specs.declared.word.Word.{Word}
 use Rattle.bus.specs.DataWords.{DataWord}
-use Rattle.recording.specs.declared.words.Found.TheVariants.{Value}
-use Rattle.recording.specs.AsCoded.Found.{word_found}
+use Rattle.recording.specs.AsCoded.Found.{found, word_found}
 use Rattle.pieces.specs.LastLine.{counted}
 use Rattle.pieces.specs.Course.{taken, Course}
 use Rattle.rows.specs.Row.{marks_on, word_there}
@@ -20,7 +19,7 @@ pub record Hearing {Run Machine : Type 0} (course : Course Run) (run : Machine �
   -- a data word that is wanted is a field that prints nothing, and one word fewer is wanted then
   pub is_met : (line : Bool) (more : ℕ) (old : Machine) (fields offset : ℕ) (window : List ℕ)
       (at value next : ℕ) → Wants line (suc more) old
-      → word_found window at (marks_on line) ≡ Value value next
+      → word_found window at (marks_on line) ≡ Some (found value next)
       → course.meets (run old fields offset) window at
       ≡ taken next [] (run (hears (word_there window line at value ∷ []) old)
       (counted (fields + 1)) (counted (offset + 10)))

@@ -3,38 +3,33 @@
 use mathlib.Core.Path.{◌≡◌, refl, sym, ap, subst, ◌∙◌}
 use mathlib.Core.Logic.{◌≢◌}
 use mathlib.Core.Bool.{Bool, true, false, true≢false}
-use mathlib.Core.List.{List, [], ◌∷◌, append-nil}
-use Prim.Native.Nat.{ℕ, suc, ◌+◌, ◌≤◌, min}
-use lib.Dec.{eqb}
+use mathlib.Core.List.{List, [], ◌∷◌, ◌++◌, append-nil}
+use Prim.Native.Nat.{ℕ, suc, ◌≤◌, ◌<◌, min}
 use native.Mathlib.Omega.{arith}
 use lib.ListN.{length, take, length-drop}
-use Rattle.std.specs.Prelude.{Result, Ok, Err, IsErr}
-use Rattle.std.proofs.Math.Numerals.{add-one}
+use Rattle.std.specs.Prelude.{Option, Some, None, IfSome, Result, Ok, Err, IsErr, OnOk}
+use Rattle.std.specs.Io.KnownBytes.{Appends, Consumes, IsAtEnd}
+use Rattle.std.proofs.lemmas.List.{take_min}
 use Rattle.pieces.specs.declared.window.Passed.{Passed as HeldPassed}
 use Rattle.pieces.specs.declared.stop.Stop.{Stop}
 use Rattle.pieces.specs.declared.stop.Stop.TheVariants.{Going, Hungry, Full, Over}
 use Rattle.pieces.specs.Course.{Course}
+use Rattle.pieces.specs.Whole.{Whole, whole, with_line, whole_from}
 use Rattle.pieces.specs.Steady.{Steady}
 use Rattle.pieces.specs.AsCoded.Window.{Passed, is_going, window_run}
+use Rattle.pieces.specs.AsCoded.Pieces.{lines_put}
 use Rattle.pieces.specs.AsCoded.Runner.{passed_of}
 use Rattle.pieces.proofs.EndLaws.{call_stops, full_after_a_field}
 use Rattle.pieces.proofs.HungryLaws.{hungry_few}
-use Rattle.stream.specs.Progress.{
-  buffer_bytes,
-  Far,
-  after_call,
-  with_piece,
-  at_end,
-  Progressed,
-  starts,
-  takes,
-  feeds,
-  finds_end,
-}
-use Rattle.stream.specs.Came.{LastCall, all_turns, Came, finished, broken_off, unread, spent}
-use Rattle.stream.specs.AsCoded.Turns.{Left, nothing_left, behind, ReadOn, Settled, Turned}
+use Rattle.pieces.proofs.WindowLaws.{call_is_over}
+use Rattle.pieces.proofs.PieceLaws.{streamed_prints}
+use Rattle.stream.specs.Progress.{buffer_bytes, Far, after_call, with_piece, at_end, Progressed, takes, feeds, finds_end}
+use Rattle.stream.specs.Came.{LastCall, Came, finished, broken_off, unread}
+use Rattle.stream.specs.Known.{PrintedAll}
+use Rattle.stream.specs.AsCoded.Turns.{Left, behind, Settled, Turned}
 use Rattle.stream.specs.AsCoded.Turns as turn
-use Rattle.stream.proofs.ProgressLaws.{few_turns}
+use Rattle.stream.proofs.KnownLaws.{consumes_more, appends_more}
+use Rattle.stream.proofs.ProgressLaws.{progressed_streamed}
 
 -- ---- how the code comes to it
 
@@ -43,30 +38,55 @@ module _ {Run Error : Type 0} (course : Course Run) (old : Run) (left : Left) (o
     (few : length left.bytes ≤ buffer_bytes) (is_bytes : bytes ≡ left.bytes)
     (is_ended : ended ≡ left.ended)
     (is : passed_of new passed out' ≡ window_run course old bytes ended out) where
-  pub turned : (left' : Left) (told : Result Bool Error)
-      → Settled (passed_of new passed out') left left' told
-      → Turned course old left out new left' told
-  turned left' told settled =
+  pub turned : (left' : Left) (given given' held held' : Option (List ℕ)) (told : Result Bool Error)
+      → OnOk told (Appends held held' (lines_put (passed_of new passed out')))
+      → Settled (passed_of new passed out') left left' given given' told
+      → Turned course old left out new left' given given' held held' told
+  turned left' given given' held held' told written settled =
       let is_call : passed_of new passed out' ≡ window_run course old left.bytes left.ended out =
       is ∙ rw (is_bytes, is_ended) refl in
       record {
         few = few;
         is_new = ap (λ (call : Passed Run). call.run) is_call;
-        settled = subst (λ (call : Passed Run). Settled call left left' told) is_call settled;
+        written =
+            subst (λ (call : Passed Run). OnOk told (Appends held held' (lines_put call))) is_call
+            written;
+        settled =
+            subst (λ (call : Passed Run). Settled call left left' given given' told) is_call
+            settled;
       }
 
--- what is put is not nothing where some of it is written
-pub some_put : (out : List ℕ) (into size : ℕ) (none : Bool) → size ≡ min into (length out)
-    → none ≡ eqb (length (take size out)) 0 → none ≡ false → into ≢ 0
-some_put out into size none is_size is_none some nothing =
-    let empty : size ≡ 0 = omega (arith, is_size, nothing) in
-    true≢false (rw empty at (sym is_none ∙ some))
+-- of a turn that fails no line has to be written
+pub none_written : {Error : Type 0} (Wrote : Type 0) (told : Result Bool Error) → IsErr told
+    → OnOk told Wrote
+none_written Wrote (Ok over) failed = absurd (true≢false (sym failed))
+none_written Wrote (Err error) failed = tt
+
+-- nothing is put where no line is
+pub some_put : (out : List ℕ) (into size : ℕ) → size ≡ min into (length out)
+    → take size out ≢ [] → into ≢ 0
+some_put out into size is_size some nothing =
+    let none : size ≡ 0 = omega (arith, is_size, nothing) in
+    some (rw none refl)
+
+-- a part that is as long as the buffer at the most is what was put
+pub lines_written : (held held' : Option (List ℕ)) (out : List ℕ) (into size : ℕ)
+    → size ≡ min into (length out) → Appends held held' (take size out)
+    → Appends held held' (take into out)
+lines_written held held' out into size is_size =
+    subst (Appends held held')
+    (ap (λ (any : ℕ). take any out) is_size ∙ take_min into out)
 
 -- ---- how far it has come
 
+-- what is known of the bytes that the input has yet to give, and of those that the output holds
+pub record Known : Type 0 where
+  pub given : Option (List ℕ)
+  pub held : Option (List ℕ)
+
 -- in so many turns some input was read and some text printed, and so much is left
-pub record Reached {Run : Type 0} (course : Course Run) (start : Run) (turns : ℕ) (new : Run)
-    (left : Left) : Type 0 where
+pub record Reached {Run : Type 0} (course : Course Run) (start : Run) (before : Known)
+    (turns : ℕ) (new : Run) (left : Left) (known : Known) : Type 0 where
   pub input : List ℕ
   pub text : List ℕ
   pub progressed : Progressed course start turns
@@ -77,19 +97,30 @@ pub record Reached {Run : Type 0} (course : Course Run) (start : Run) (turns : �
         run = new;
         window = left.bytes;
       })
+  pub read : Consumes before.given known.given input
+  pub at_end : left.ended ≡ true → IsAtEnd known.given
+  pub wrote : Appends before.held known.held text
+
+-- a run that is over, and whole
+pub record Ended {Run : Type 0} (course : Course Run) (start : Run) (before : Known) (new : Run)
+    (known : Known) : Type 0 where
+  pub came : Came course start new true
+  pub printed : IfSome before.given (PrintedAll course start new before.held known.held)
 
 -- the program goes on, or it is over, and its run whole or not
-abbrev pub After : {Run Error : Type 0} → Course Run → Run → ℕ → Run → Left → Result Bool Error
-    → Type 0
-After course start turns new left (Ok false) = Reached course start turns new left
-After course start turns new left (Ok true) = Came course start new true
-After course start turns new left (Err error) = Came course start new false
+abbrev pub After : {Run Error : Type 0} → Course Run → Run → Known → ℕ → Run → Left → Known
+    → Result Bool Error → Type 0
+After course start before turns new left known (Ok false) =
+    Reached course start before turns new left known
+After course start before turns new left known (Ok true) = Ended course start before new known
+After course start before turns new left known (Err error) = Came course start new false
 
-by_failure : {Run Error : Type 0} (course : Course Run) (start : Run) (turns : ℕ) (new : Run)
-    (left : Left) (told : Result Bool Error) → IsErr told → Came course start new false
-    → After course start turns new left told
-by_failure course start turns new left (Ok over) failed came = absurd (true≢false (sym failed))
-by_failure course start turns new left (Err error) failed came = came
+by_failure : {Run Error : Type 0} (course : Course Run) (start : Run) (before : Known) (turns : ℕ)
+    (new : Run) (left : Left) (known : Known) (told : Result Bool Error) → IsErr told
+    → Came course start new false → After course start before turns new left known told
+by_failure course start before turns new left known (Ok over) failed came =
+    absurd (true≢false (sym failed))
+by_failure course start before turns new left known (Err error) failed came = came
 
 -- a call that neither goes on nor is over nor needs bytes had no room for another line
 is_full : (stop : Stop) → is_going stop ≡ false → stop ≢ Over → stop ≢ Hungry → stop ≡ Full
@@ -99,10 +130,12 @@ is_full Full goes ends waits = refl
 is_full Over goes ends waits = absurd (ends refl)
 
 module _ {Run Error : Type 0} (course : Course Run) {longest : ℕ} (steady : Steady course longest)
-    (short : longest ≤ buffer_bytes) {start old : Run} {turns : ℕ} {left : Left} (out : List ℕ)
-    (long : length out ≡ buffer_bytes) (so_far : Reached course start turns old left) {new : Run}
+    (short : longest ≤ buffer_bytes) {start old : Run} {before known known' : Known} {turns : ℕ}
+    {left : Left} (out : List ℕ) (long : length out ≡ buffer_bytes)
+    (so_far : Reached course start before turns old left known) {new : Run}
     {left' : Left} {told : Result Bool Error}
-    (turned_lem : Turned course old left out new left' told) where
+    (turned_lem : Turned course old left out new left' known.given known'.given known.held
+    known'.held told) where
   -- before the call
   far : Far Run
   far =
@@ -131,26 +164,66 @@ module _ {Run Error : Type 0} (course : Course Run) {longest : ℕ} (steady : St
 
   reached : (next : Far Run) → Progressed course start (suc turns) next
       → next.run ≡ (after_call course far out).run → next.window ≡ left'.bytes
-      → next.ended ≡ left'.ended → Reached course start (suc turns) new left'
+      → next.ended ≡ left'.ended → Consumes before.given known'.given next.input
+      → (left'.ended ≡ true → IsAtEnd known'.given)
+      → Appends before.held known'.held next.text
+      → Reached course start before (suc turns) new left' known'
   unfolding far
-  reached next progressed is_run is_left is_ended =
+  reached next progressed is_run is_left is_ended read at_end wrote =
       rw (turned_lem.is_new ∙ sym is_run)
       (record {
         input = next.input;
         text = next.text;
         progressed = rw (← is_left, ← is_ended) progressed;
+        read = read;
+        at_end = at_end;
+        wrote = wrote;
       })
 
-  pub after_turn : After course start (suc turns) new left' told
+  -- all that the input had to give is printed
+  is_printed : (call).stop ≡ Over → Appends before.held known'.held (so_far.text ++ lines_put (call))
+      → IfSome before.given (PrintedAll course start new before.held known'.held)
+  unfolding call
+  is_printed is wrote = go before.given known.given so_far.read so_far.at_end where
+    go : (given given' : Option (List ℕ)) → Consumes given given' so_far.input
+        → (left.ended ≡ true → IsAtEnd given')
+        → IfSome given (PrintedAll course start new before.held known'.held)
+    go None given' read none = tt
+    go (Some bytes) None read none = absurd read
+    go (Some bytes) (Some rest) read none =
+        let as_whole : whole_from course start bytes
+        ≡ whole (so_far.text ++ lines_put (call)) (call).run =
+        ap (whole_from course start) read
+        ∙ streamed_prints course steady start left.ended so_far.input so_far.text old left.bytes
+        (progressed_streamed course steady so_far.progressed) rest none
+        ∙ ap (with_line so_far.text)
+        (call_is_over course steady left.bytes rest left.ended none old out is) in
+        record {
+          is_text = rw as_whole wrote;
+          is_new = turned_lem.is_new ∙ sym (ap (λ (any : Whole Run). any.run) as_whole);
+        }
+
+  pub after_turn : After course start before (suc turns) new left' known' told
   unfolding far call last
   after_turn = go turned_lem.settled where
-    go : Settled (call) left left' told → After course start (suc turns) new left' told
-    go (turn.breaks_off some failed) = by_failure course start (suc turns) new left' told failed
+    wrote : {over : Bool} → told ≡ Ok over
+        → Appends before.held known'.held (so_far.text ++ lines_put (call))
+    wrote is_told =
+        appends_more before.held known.held known'.held so_far.text (lines_put (call)) so_far.wrote
+        (rw is_told at turned_lem.written)
+
+    go : Settled (call) left left' known.given known'.given told
+        → After course start before (suc turns) new left' known' told
+    go (turn.breaks_off some failed) =
+        by_failure course start before (suc turns) new left' known' told failed
         (broken_off last some)
-    go (turn.unread is failed) = by_failure course start (suc turns) new left' told failed
-        (unread last is)
-    go (turn.ends is is_told) = rw is_told (finished last is)
-    go (turn.stays over hungry is_left is_told) =
+    go (turn.unread is failed) =
+        by_failure course start before (suc turns) new left' known' told failed (unread last is)
+    go (turn.ends is is_told) =
+        let printed = is_printed is (wrote is_told) in
+        rw is_told (record { came = finished last is; printed = printed })
+    go (turn.stays over hungry is_left same is_told) =
+        let all = wrote is_told in
         let full : (call).stop ≡ Full =
         is_full (call).stop
         (call_stops course steady left.bytes left.ended old out
@@ -161,82 +234,39 @@ module _ {Run Error : Type 0} (course : Course Run) {longest : ℕ} (steady : St
         (full_after_a_field course steady left.bytes left.ended old out (omega (arith, long))
         full))
         refl (ap (λ (any : Left). any.bytes) (sym is_left))
-        (ap (λ (any : Left). any.ended) (sym is_left)))
-    go (turn.reads is read is_told) = rw is_told (by_piece read.piece read.is_new) where
-      by_piece : (piece : List ℕ) → left' ≡ turn.with_piece piece (behind (call).at left)
-          → Reached course start (suc turns) new left'
-      by_piece [] is_left =
-          reached (at_end (after_call course far out))
-          (finds_end out so_far.progressed is
-          (omega (
-            arith,
-            short,
-            hungry_few course steady left.bytes left.ended old out is,
-            length-drop (call).at left.bytes,
-          )))
-          refl (sym (append-nil _) ∙ ap (λ (any : Left). any.bytes) (sym is_left))
-          (ap (λ (any : Left). any.ended) (sym is_left))
-      by_piece (byte ∷ more) is_left =
-          reached (with_piece (after_call course far out) (byte ∷ more))
-          (feeds out (byte ∷ more) so_far.progressed is (omega arith))
-          refl (ap (λ (any : Left). any.bytes) (sym is_left))
-          (ap (λ (any : Left). any.ended) (sym is_left))
+        (ap (λ (any : Left). any.ended) (sym is_left))
+        (rw same so_far.read) (rw (same, is_left) so_far.at_end) all)
+    go (turn.reads {after = after} is is_after read is_told) =
+        rw is_told (by_piece (wrote is_told) read.piece (rw is_after at read.is_new) read.given_lem
+        (rw is_after at read.at_end)) where
+          more : (piece : List ℕ) → Consumes known.given known'.given piece
+              → Consumes before.given known'.given (so_far.input ++ piece)
+          more piece consumed =
+              consumes_more before.given known.given known'.given so_far.input piece so_far.read consumed
 
--- ---- turn after turn
-
--- so far a steady course has come, whose fields are no longer than the window
-pub record Runs {Run : Type 0} (course : Course Run) (start : Run) (turns : ℕ) (new : Run)
-    (left : Left) (out : List ℕ) : Type 0 where
-  pub out_size : length out ≡ buffer_bytes
-  pub reached_lem : (longest : ℕ) → Steady course longest → longest ≤ buffer_bytes
-      → Reached course start turns new left
-
-module _ {Run : Type 0} (course : Course Run) (start : Run) where
-  pub runs_at_start : (out : List ℕ) → length out ≡ buffer_bytes
-      → Runs course start 0 start nothing_left out
-  runs_at_start out size =
-      record {
-        out_size = size;
-        reached_lem =
-            λ longest steady short. record { input = []; text = []; progressed = starts };
-      }
-
-  module _ {Error : Type 0} {turns : ℕ} {old new : Run} {left left' : Left} {out : List ℕ}
-      (so_far : Runs course start turns old left out) (told : Result Bool Error)
-      (turned_lem : Turned course old left out new left' told) where
-    -- what a turn leads to
-    pub runs_to : (longest : ℕ) → Steady course longest → longest ≤ buffer_bytes
-        → After course start (suc turns) new left' told
-    runs_to longest steady short =
-        after_turn course steady short out so_far.out_size
-        (so_far.reached_lem longest steady short) turned_lem
-
-    pub runs_on : (out' : List ℕ) → length out' ≡ length out → told ≡ Ok false
-        → Runs course start (turns + 1) new left' out'
-    runs_on out' same is_told =
-        rw add-one record {
-          out_size = same ∙ so_far.out_size;
-          reached_lem =
-              λ longest steady short.
-              subst (After course start (suc turns) new left') is_told
-              (runs_to longest steady short);
-        }
-
-    pub runs_whole : told ≡ Ok true → (longest : ℕ) → Steady course longest
-        → longest ≤ buffer_bytes → Came course start new true
-    runs_whole is_told longest steady short =
-        subst (After course start (suc turns) new left') is_told (runs_to longest steady short)
-
-    pub runs_off : (error : Error) → told ≡ Err error → (longest : ℕ) → Steady course longest
-        → longest ≤ buffer_bytes → Came course start new false
-    runs_off error is_told longest steady short =
-        subst (After course start (suc turns) new left') is_told (runs_to longest steady short)
-
-  -- no turn is left
-  pub runs_out : {turns : ℕ} {new : Run} {left : Left} {out : List ℕ}
-      → Runs course start turns new left out → turns ≡ all_turns
-      → (longest : ℕ) → Steady course longest → longest ≤ buffer_bytes → Came course start new false
-  runs_out so_far all longest steady short =
-      let reached = so_far.reached_lem longest steady short in
-      let progressed = rw all at reached.progressed in
-      spent _ progressed (few_turns course steady progressed) refl
+          by_piece : Appends before.held known'.held (so_far.text ++ lines_put (call))
+              → (piece : List ℕ) → left' ≡ turn.with_piece piece (behind (call).at left)
+              → Consumes known.given known'.given piece
+              → (piece ≡ [] → length (behind (call).at left).bytes < buffer_bytes
+              → IsAtEnd known'.given)
+              → Reached course start before (suc turns) new left' known'
+          by_piece all [] is_left consumed at_end_lem =
+              let room : length (behind (call).at left).bytes < buffer_bytes =
+              omega (
+                arith,
+                short,
+                hungry_few course steady left.bytes left.ended old out is,
+                length-drop (call).at left.bytes,
+              ) in
+              reached (at_end (after_call course far out))
+              (finds_end out so_far.progressed is room)
+              refl (sym (append-nil _) ∙ ap (λ (any : Left). any.bytes) (sym is_left))
+              (ap (λ (any : Left). any.ended) (sym is_left))
+              (rw append-nil at (more [] consumed)) (λ ended. at_end_lem refl room) all
+          by_piece all (byte ∷ rest) is_left consumed at_end_lem =
+              reached (with_piece (after_call course far out) (byte ∷ rest))
+              (feeds out (byte ∷ rest) so_far.progressed is (omega arith))
+              refl (ap (λ (any : Left). any.bytes) (sym is_left))
+              (ap (λ (any : Left). any.ended) (sym is_left))
+              (more (byte ∷ rest) consumed)
+              (λ ended. absurd (true≢false (sym ended ∙ ap (λ (any : Left). any.ended) is_left))) all

@@ -3,11 +3,13 @@
 // the lines of a call are written at once, so that memory stays the same whatever the length.
 #![tactic(auto)]
 
-ghost use Rattle.std.specs.Prelude.{◌≡◌, ◌≤◌, ℕ};
+ghost use Rattle.std.specs.Prelude.{◌≡◌, ◌≢◌, ◌≤◌, ℕ, [], IsErr, OnOk};
+ghost use Rattle.std.specs.Io.KnownBytes.{Appends};
 ghost use Rattle.pieces.specs.Steady.{Steady};
 ghost use Rattle.pieces.specs.AsCoded.Window.{window_run};
 ghost use Rattle.stream.specs.Progress.{buffer_bytes};
 ghost use Rattle.stream.specs.Came.{Came};
+ghost use Rattle.stream.specs.Known.{PrintsKnown};
 ghost use Rattle.stream.specs.AsCoded.Turns.{Turned};
 
 mod window;
@@ -16,6 +18,18 @@ use crate::window::{BUFFER_BYTES, Window};
 use pieces::{Runner, Stop};
 use std::io;
 use std::io::{Read, Write};
+
+// Writes the lines of a call, which cannot fail where there are none.
+fn write_lines<O: Write>(output: &mut O, lines: &[u8]) -> io::Result<()>
+    ensures some { IsErr result → lines.now ≢ [] }
+    ensures written { OnOk result
+        (Appends (O.contents output.old) (O.contents output.new) lines.now) }
+{
+    if lines.is_empty() {
+        return Ok(());
+    }
+    output.write_all(lines)
+}
 
 // A turn: a call over the window, whose lines are written and whose bytes are taken, and a read
 // where it needs bytes. Answers whether the run is over.
@@ -28,14 +42,13 @@ fn turn<R: Runner, I: Read, O: Write>(
     output: &mut O,
 ) -> io::Result<bool>
     ensures { Turned R.course (R.run_of run.old ram.old) window.old out.old
-        (R.run_of run.new ram.new) window.new result }
+        (R.run_of run.new ram.new) window.new
+        (I.remaining input.old) (I.remaining input.new)
+        (O.contents output.old) (O.contents output.new) result }
 {
     let passed = pieces::run_window(run, ram, window.bytes(), out, window.has_ended());
-    // a steady course puts no more than there is room for
-    let lines = &out[..passed.put.min(out.len())];
-    if !lines.is_empty() {
-        output.write_all(lines)?;
-    }
+    // no steady course puts more than there is room for
+    write_lines(output, &out[..passed.put.min(out.len())])?;
     window.take_to(passed.at);
     match passed.stop {
         Stop::Over => Ok(true),
@@ -56,8 +69,11 @@ pub fn run_input<R: Runner, I: Read, O: Write>(
     input: &mut I,
     output: &mut O,
 ) -> bool
-    ensures { (longest : ℕ) → Steady R.course longest → longest ≤ buffer_bytes
+    ensures came { (longest : ℕ) → Steady R.course longest → longest ≤ buffer_bytes
         → Came R.course (R.run_of run.old ram.old) (R.run_of run.new ram.new) result }
+    ensures known { (longest : ℕ) → Steady R.course longest → longest ≤ buffer_bytes
+        → PrintsKnown R.course (R.run_of run.old ram.old) (R.run_of run.new ram.new) result
+        (I.remaining input.old) (O.contents output.old) (O.contents output.new) }
 {
     let mut window = Window::empty();
     let mut out = [0; BUFFER_BYTES];

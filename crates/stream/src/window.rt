@@ -67,7 +67,8 @@ impl Window {
 
     // One more piece behind the bytes that are there. One of no bytes is the end of the input.
     pub fn read<I: Read>(&mut self, input: &mut I) -> io::Result<()>
-        ensures { OnOk result (ReadOn self.old self.new) }
+        ensures { OnOk result
+            (ReadOn self.old self.new (I.remaining input.old) (I.remaining input.new)) }
     {
         let count = input.read(&mut self.bytes[self.have..])?;
         self.have += count;

@@ -5,8 +5,10 @@ use Rattle.std.proofs.Common.{
   ◌+◌,
   ◌-◌,
   List,
+  Option,
   Some,
   None,
+  Result,
   Ok,
   Err,
   sym,
@@ -14,6 +16,7 @@ use Rattle.std.proofs.Common.{
   ◌∙◌,
   arith,
 }
+use Rattle.refusals.specs.Number.{number_of}
 use Rattle.terminal.specs.declared.state.Core.{Core}
 use Rattle.terminal.specs.declared.state.Answer.{Answer}
 use Rattle.queue.specs.declared.Queue.{Queue}
@@ -22,10 +25,10 @@ use Rattle.terminal.specs.Event.{shown}
 use Rattle.recording.specs.declared.field.Field.{Field}
 use Rattle.recording.specs.declared.seen.Seen.{Seen}
 use Rattle.recording.specs.declared.field.Field.TheVariants.{HostWrite}
-use Rattle.recording.specs.declared.reading.Reading.{Reading}
-use Rattle.recording.specs.declared.reading.Reading.TheVariants.{Taken, End, Refused}
+use Rattle.recording.specs.declared.reading.Taken.{Taken as FieldTaken}
+use Rattle.recording.specs.declared.reading.Refused.{Refused as FieldRefused}
 use Rattle.recording.specs.Seen.{seen_after}
-use Rattle.recording.specs.Reading.{read_at}
+use Rattle.recording.specs.Reading.{Taken, read_at, reading}
 use Rattle.recording.specs.Value.{valued_at}
 use Rattle.recording.proofs.TakenLaws.{taken_within}
 use Rattle.recording.proofs.InOrder.{taken_in_order}
@@ -38,13 +41,19 @@ use Rattle.tray.specs.Happening.{happening_of, happened}
 use Rattle.tray.specs.Run.{Tray, answer_line, taking, taking_line, met_by, tray_course}
 use Rattle.tray.specs.AsCoded.Held.{tray_of, WasRead}
 
+-- what the reader answers
+abbrev Answered : Type 0
+Answered = Result (Option FieldTaken) FieldRefused
+
 -- a field that was read has its words in the window, and ends further on
-pub reads_on : (window : List ℕ) (at : ℕ) (seen : Seen) (reading : Reading) (told : Field)
-    (next : ℕ)
-    → reading ≡ read_at window at seen → reading ≡ Taken told next
-    → WasRead window told at next
-reads_on window at seen reading told next is_reading is =
-    let taken : read_at window at seen ≡ Taken told next = sym is_reading ∙ is in
+pub reads_on : (window : List ℕ) (at : ℕ) (seen : Seen) (answer : Answered)
+    (found : Option FieldTaken) (told : FieldTaken)
+    → reading answer ≡ read_at window at seen → answer ≡ Ok found → found ≡ Some told
+    → WasRead window told.field at told.next
+reads_on window at seen answer found told is_reading is some =
+    let next : ℕ = told.next in
+    let taken : read_at window at seen ≡ Taken told.field next =
+    rw (is, some) at (sym is_reading) in
     record {
       words =
           record {
@@ -63,37 +72,40 @@ reads_on window at seen reading told next is_reading is =
 -- ---- what the code makes of a reading
 
 module _ (old : HeldTray) (ram window : List ℕ) (at : ℕ) (out : List ℕ) (into : ℕ)
-    (reading : Reading) (is_reading : reading ≡ read_at window at old.seen) where
+    (answer : Answered) (is_reading : reading answer ≡ read_at window at old.seen) where
   abbrev met : FieldLeft Tray
   met = field_run (tray_course.meets (tray_of old ram) window at) (tray_of old ram) out into
 
-  pub field_taken : (told : Field) (next : ℕ) → reading ≡ Taken told next
-      → (core : Core) (queue : Queue) (answer : Answer) (ram' out' : List ℕ) (into' : ℕ)
-      → shown (card core queue ram') answer
-      ≡ happened (happening_of (valued_at window told)) (card old.core old.queue ram)
-      → put into' out' ≡ line_written out into (answer_line ram' answer)
+  pub field_taken : (found : Option FieldTaken) (told : FieldTaken) → answer ≡ Ok found
+      → found ≡ Some told
+      → (core : Core) (queue : Queue) (brought : Answer) (ram' out' : List ℕ) (into' : ℕ)
+      → shown (card core queue ram') brought
+      ≡ happened (happening_of (valued_at window told.field)) (card old.core old.queue ram)
+      → put into' out' ≡ line_written out into (answer_line ram' brought)
       → (new : HeldTray)
       → new
       ≡ record {
         core = core;
         queue = queue;
-        seen = seen_after told old.seen;
+        seen = seen_after told.field old.seen;
         fields = counted (old.fields + 1);
-        offset = counted (old.offset + (next - at));
+        offset = counted (old.offset + (told.next - at));
       }
-      → field_left (Ok (Some (record { next = next; put = into' }))) (tray_of new ram') out'
+      → field_left (Ok (Some (record { next = told.next; put = into' }))) (tray_of new ram') out'
       ≡ met
   unfolding field_run tray_course met_by taking taking_line
-  field_taken told next is core queue answer ram' out' into' is_left is_put new is_new =
-      rw (← is_reading, is, ← is_left, ← is_put, is_new)
+  field_taken found told is some core queue brought ram' out' into' is_left is_put new is_new =
+      rw (← is_reading, is, some, ← is_left, ← is_put, is_new)
 
-  pub end_met : reading ≡ End → field_left (Ok None) (tray_of old ram) out ≡ met
+  pub end_met : (found : Option FieldTaken) → answer ≡ Ok found → found ≡ None
+      → field_left (Ok None) (tray_of old ram) out ≡ met
   unfolding field_run tray_course met_by
-  end_met is = rw (← is_reading, is)
+  end_met found is none = rw (← is_reading, is, none)
 
-  pub refusal_met : (number place : ℕ) → reading ≡ Refused number place
+  pub refusal_met : (refused : FieldRefused) (number : ℕ) → answer ≡ Err refused
+      → number ≡ number_of refused.refusal
       → field_left (Err number) (tray_of old ram) out ≡ met
   unfolding field_run tray_course met_by
-  refusal_met number place is = rw (← is_reading, is)
+  refusal_met refused number is is_number = rw (← is_reading, is, is_number)
 
 pub ruleset meeting = (end_met, refusal_met)

@@ -3,7 +3,6 @@ use crate::run::Tray;
 use crate::{field, print};
 use pieces::{Runner, Took, Went};
 use recording;
-use recording::Reading;
 use rows::Row;
 
 impl Runner for Tray {
@@ -63,17 +62,18 @@ impl Runner for Tray {
         put: usize,
     ) -> Result<Option<Took>, u8> {
         match recording::read_field(window, at, self.seen) {
-            Reading::Taken { field, next } => {
+            Ok(Some(taken)) => {
+                let field = taken.field;
                 let answer = field::happen(&mut self.core, &mut self.queue, ram, window, field);
                 self.seen = self.seen.after(field);
-                self.pass(1, (next - at) as u64);
+                self.pass(1, (taken.next - at) as u64);
                 Ok(Some(Took {
-                    next,
+                    next: taken.next,
                     put: print::put_answer(out, put, ram, answer),
                 }))
             }
-            Reading::End => Ok(None),
-            Reading::Refused { number, place: _ } => Err(number),
+            Ok(None) => Ok(None),
+            Err(refused) => Err(u8::from(refused.refusal)),
         }
     }
 }

@@ -1,11 +1,14 @@
 -- What the code holds of a run, as the definitions have it. Definitions only. Assumes nothing.
-use Rattle.std.specs.Prelude.{◌≡◌, ℕ, ◌*◌, ◌≤◌, List}
+use Rattle.std.specs.Prelude.{◌≡◌, ℕ, ◌*◌, ◌≤◌, List, None, Result, Ok, Err}
+use Rattle.refusals.specs.declared.Refusal.{Refusal}
 use Rattle.recording.specs.declared.field.Field.TheVariants.{HostWrite}
 use Rattle.recording.specs.Bytes.{bytes_left}
 use Rattle.recording.specs.Seen.{nothing_seen}
 use Rattle.controller.specs.State.{desk, at_setup}
 use Rattle.desk.specs.declared.field.Field.{Field}
 use Rattle.desk.specs.declared.field.Field.TheVariants.{Shared}
+use Rattle.desk.specs.declared.deed.Answer.{Answer}
+use Rattle.desk.specs.declared.deed.Answer.TheVariants.{Gave}
 use Rattle.desk.specs.declared.run.Run.{Run as HeldRun}
 use Rattle.desk.specs.Run.{Run}
 
@@ -22,6 +25,11 @@ run_of run ram =
 -- before the first field
 unfoldable pub held_at_start : HeldRun
 held_at_start = record { controller = at_setup 0 0; seen = nothing_seen; fields = 0; offset = 0 }
+
+-- what comes of a field: of a start that is refused no words
+abbrev pub answer_in : Result Answer Refusal → Answer
+answer_in (Ok answer) = answer
+answer_in (Err refusal) = Gave None
 
 -- ---- what a field brings that was read
 

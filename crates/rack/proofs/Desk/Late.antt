@@ -111,7 +111,7 @@ module _ {line : Bool} {most : ℕ} (now : Desk) (word : Word)
     (on_line : line_in now.state.control ≡ line) where
   done_late : (act : WordAct) (message : OpenMessage) → Within most act
       → Late line most (word_done act message word now).desk
-  unfolding word_done ended with_message
+  unfolding ended with_message
   done_late (heard.Fault code) message few = over refl
   done_late (Take cell exchange) message few = going _ refl on_line few
 
@@ -126,7 +126,6 @@ module _ {line : Bool} {most : ℕ} (now : Desk) (word : Word)
   met_late : (message : OpenMessage) → now.state.message ≡ Some message
       → silences message.progress ≤ most
       → Late line most (word_met (Some message) word now).desk
-  unfolding word_met
   met_late message is few =
       by_test (λ (any : Heard). Late line most any.desk)
       (beq word.line (line_in now.state.control))
@@ -135,7 +134,6 @@ module _ {line : Bool} {most : ℕ} (now : Desk) (word : Word)
 idle_late : {line : Bool} {most : ℕ} (message : Option OpenMessage) (word : Word) (now : Desk)
     → is_idle message ≡ true → now.state.message ≡ message
     → Late line most (word_met message word now).desk
-unfolding word_met
 idle_late None word now is same = over (rw same)
 idle_late (Some message) word now is same = absurd (clash (cc))
 

@@ -60,7 +60,7 @@ module _ (most : ℕ) (order : Order) where
 done_late : {line : Bool} {most : ℕ} (now : Desk) → line_in now.state.control ≡ line
     → (act : SilenceAct) (message : OpenMessage) → Within most act
     → Late line most (silence_done act message now).desk
-unfolding silence_done ended with_message
+unfolding ended with_message
 done_late now on_line (Fault code) message few = over refl
 done_late now on_line (GoOn exchange) message few = going _ refl on_line few
 done_late now on_line End message few = over refl
@@ -68,7 +68,6 @@ done_late now on_line End message few = over refl
 idle_late : {line : Bool} {most : ℕ} (message : Option OpenMessage) (on : Bool) (now : Desk)
     → is_idle message ≡ true → now.state.message ≡ message
     → Late line most (silence_met message on now).desk
-unfolding silence_met
 idle_late None on now is same = over (rw same)
 idle_late (Some message) on now is same = absurd (clash (cc))
 
@@ -76,7 +75,6 @@ met_late : (most : ℕ) (now : Desk) (message : OpenMessage)
     → silences message.progress ≤ suc most
     → Late (line_in now.state.control) most
     (silence_met (Some message) (line_in now.state.control) now).desk
-unfolding silence_met
 met_late most now message few =
     rw (beq_same (line_in now.state.control))
     (done_late now refl (silence_in message.progress message.order) message

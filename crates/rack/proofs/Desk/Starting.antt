@@ -59,12 +59,11 @@ module _ (order : Order) (old : Desk) where
   answered = starting order old
 
   nothing_given : (refusal : ℕ) → started_as refusal None old ≡ answered → ⊥
-  unfolding starting
   nothing_given refusal same = clash (ap (λ (any : Started). gives any.given) same)
 
   by_code : (coded : Option Coded) → length old.ram ≡ desk_words → starting_by coded old ≡ answered
       → Starts order old
-  unfolding starting_by starting with_order
+  unfolding with_order
   by_code (Some coded) whole same =
       let is : order_in coded.row coded.broadcast old ≡ order =
       ap (λ (any : Started). order_of order any.desk.state.message) same in

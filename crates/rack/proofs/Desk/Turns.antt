@@ -24,7 +24,7 @@ use Rattle.exchange.specs.Judge.{exchange_of, at_first, is_marked, silence_heard
 use Rattle.controller.specs.Control.{block_in, line_in}
 use Rattle.controller.specs.State.{Desk, with_message}
 use Rattle.controller.specs.Start.{with_order}
-use Rattle.controller.specs.Heard.{words_step, ended, silence_done, silence_met, silence_step}
+use Rattle.controller.specs.Heard.{words_step, ended, silence_done, silence_step}
 use Rattle.rack.specs.Segment.{Segment, segment, Given, Said, data_words, at_desk}
 use Rattle.rack.specs.Hearing.{Stamps, desk_turn}
 use Rattle.rack.proofs.Desk.Starting.{open_desk}
@@ -41,7 +41,7 @@ module _ (start : Desk) (order : Order) (taken : ℕ) (mark : Bool) (ram : List 
       → (silence_step (line_in start.state.control) (at (exchange_of Reply taken mark))).desk
       ≡ cond (format_for order).last (at (exchange_of AwaitingLast taken mark))
       (ended 0 mark (at (exchange_of Reply taken mark))).desk
-  unfolding silence_step silence_met silence_done silence_heard with_message
+  unfolding silence_step silence_heard with_message
   full_silence full =
       rw (
         beq_same (line_in start.state.control),
@@ -61,7 +61,7 @@ module _ (start : Desk) (order : Order) (taken : ℕ) (mark : Bool) (ram : List 
   last_silence :
       (silence_step (line_in start.state.control) (at (exchange_of Ended taken mark))).desk
       ≡ (ended 0 mark (at (exchange_of Ended taken mark))).desk
-  unfolding silence_step silence_met silence_done silence_heard with_message
+  unfolding silence_step silence_heard with_message
   last_silence = rw (beq_same (line_in start.state.control))
 
 -- ---- turns
@@ -70,7 +70,7 @@ module _ (order : Order) (old : Desk) where
   first_silence : (silence_step (line_in old.state.control) (open_desk order old)).desk
       ≡ cond (format_for order).status (back_at (open_desk order old) order at_first old.ram)
       (ended 0 false (open_desk order old)).desk
-  unfolding silence_step silence_met silence_done with_order with_message
+  unfolding silence_step with_order with_message
   first_silence =
       rw (beq_same (line_in old.state.control)) (by_status (format_for order).status)
     where

@@ -27,7 +27,7 @@ use Rattle.exchange.specs.Judge.{
 }
 use Rattle.controller.specs.Control.{block_in, line_in}
 use Rattle.controller.specs.State.{Desk, desk, open_back, with_message}
-use Rattle.controller.specs.Heard.{word_done, word_met, word_step, words_step}
+use Rattle.controller.specs.Heard.{word_step, words_step}
 use Rattle.controller.proofs.RowWords.{row_is_words}
 use Rattle.rack.specs.Segment.{segment, command_word, data_words, words_on}
 use Rattle.rack.proofs.Segments.{values_of_data, length_of_data, all_of_data}
@@ -55,7 +55,7 @@ module _ (start : Desk) (order : Order) where
         (at (exchange_of Awaiting taken mark) ram)).desk
         ≡ at (exchange_of Reply taken (mark || is_marked value))
         (with_cell ram block (the_cell (status_cell (format_for order))) value)
-    unfolding word_step word_met word_done on_word word_heard status_heard with_message
+    unfolding word_step on_word word_heard status_heard with_message
     status_taken is = rw (beq_same line, eq-eqb (address_of value) (awaited order) is)
 
     pub last_status_taken : address_of value ≡ awaited_last order
@@ -63,7 +63,7 @@ module _ (start : Desk) (order : Order) where
         (at (exchange_of AwaitingLast taken mark) ram)).desk
         ≡ at (exchange_of Ended taken (mark || is_marked value))
         (with_cell ram block (the_cell (last_cell (format_for order))) value)
-    unfolding word_step word_met word_done on_word word_heard status_heard with_message
+    unfolding word_step on_word word_heard status_heard with_message
     last_status_taken is = rw (beq_same line, eq-eqb (address_of value) (awaited_last order) is)
 
   -- ---- one after the other

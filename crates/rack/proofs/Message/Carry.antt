@@ -64,7 +64,7 @@ pub message_begins : (order : Order) (clock : ℕ → Stamps) (old : Rack)
     ≡ carry most_turns (line_in old.desk.state.control) clock
     (Given (given_segment order old.desk) ∷ [])
     (rack (open_desk order old.desk) old.terminals)
-unfolding message begun starting with_order
+unfolding message begun with_order
 message_begins order clock old starts =
     ap (λ (any : Started). begun clock any old) starts
     ∙ ap (λ (any : Segment). carry most_turns (line_in old.desk.state.control) clock

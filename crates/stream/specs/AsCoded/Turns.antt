@@ -12,15 +12,20 @@ use Rattle.std.specs.Prelude.{
   ◌++◌,
   ℕ,
   ◌≤◌,
+  ◌<◌,
   length,
   drop,
   Result,
   Ok,
   IsErr,
+  OnOk,
+  Option,
 }
+use Rattle.std.specs.Io.KnownBytes.{Consumes, Appends, IsAtEnd}
 use Rattle.pieces.specs.declared.stop.Stop.TheVariants.{Hungry, Over}
 use Rattle.pieces.specs.Course.{Course}
 use Rattle.pieces.specs.AsCoded.Window.{Passed, window_run}
+use Rattle.pieces.specs.AsCoded.Pieces.{lines_put}
 use Rattle.stream.specs.Progress.{buffer_bytes}
 
 -- what is left of the input in the window, and whether no more comes
@@ -43,30 +48,39 @@ is_nothing (byte ∷ more) = false
 abbrev pub with_piece : List ℕ → Left → Left
 with_piece piece old = record { bytes = old.bytes ++ piece; ended = is_nothing piece }
 
-pub record ReadOn (old new : Left) : Type 0 where
+-- what the input has yet to give, where that is known, gives the piece; it gives nothing only where
+-- nothing is left, if there was room to read into
+pub record ReadOn (old new : Left) (given given' : Option (List ℕ)) : Type 0 where
   pub piece : List ℕ
   pub is_new : new ≡ with_piece piece old
+  pub given_lem : Consumes given given' piece
+  pub at_end : piece ≡ [] → length old.bytes < buffer_bytes → IsAtEnd given'
 
 -- ---- what a call leaves to do
 
 pub data Settled {Run Error : Type 0} (call : Passed Run) (old new : Left)
-    (told : Result Bool Error) : Type 0 where
+    (given given' : Option (List ℕ)) (told : Result Bool Error) : Type 0 where
   -- its lines were not all taken, be they the last of the run
-  breaks_off : call.put ≢ 0 → IsErr told → Settled call old new told
+  breaks_off : call.put ≢ 0 → IsErr told → Settled call old new given given' told
   -- a read failed
-  unread : call.stop ≡ Hungry → IsErr told → Settled call old new told
+  unread : call.stop ≡ Hungry → IsErr told → Settled call old new given given' told
   -- the run is over
-  ends : call.stop ≡ Over → told ≡ Ok true → Settled call old new told
+  ends : call.stop ≡ Over → told ≡ Ok true → Settled call old new given given' told
   -- it had no room for more
-  stays : call.stop ≢ Over → call.stop ≢ Hungry → new ≡ behind call.at old → told ≡ Ok false
-      → Settled call old new told
+  stays : call.stop ≢ Over → call.stop ≢ Hungry → new ≡ behind call.at old → given' ≡ given
+      → told ≡ Ok false → Settled call old new given given' told
   -- it needed bytes, and a piece was read
-  reads : call.stop ≡ Hungry → ReadOn (behind call.at old) new → told ≡ Ok false
-      → Settled call old new told
+  reads : {after : Left} → call.stop ≡ Hungry → after ≡ behind call.at old
+      → ReadOn after new given given' → told ≡ Ok false → Settled call old new given given' told
 
--- a turn is a call, and what it leaves to do
+-- a turn is a call, and what it leaves to do; unless it fails, what the output holds, where that is
+-- known, has grown by the lines of the call
 pub record Turned {Run Error : Type 0} (course : Course Run) (old : Run) (left : Left)
-    (out : List ℕ) (new : Run) (left' : Left) (told : Result Bool Error) : Type 0 where
+    (out : List ℕ) (new : Run) (left' : Left) (given given' held held' : Option (List ℕ))
+    (told : Result Bool Error) : Type 0 where
   pub few : length left.bytes ≤ buffer_bytes
   pub is_new : new ≡ (window_run course old left.bytes left.ended out).run
-  pub settled : Settled (window_run course old left.bytes left.ended out) left left' told
+  pub written : OnOk told
+      (Appends held held' (lines_put (window_run course old left.bytes left.ended out)))
+  pub settled : Settled (window_run course old left.bytes left.ended out) left left' given given'
+      told

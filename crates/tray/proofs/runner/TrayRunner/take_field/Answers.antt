@@ -5,18 +5,16 @@ use Rattle.tray.proofs.TurnLaws.{reads_on, meeting, field_taken}
 use Rattle.tray.proofs.runner.TrayRunner.take_field.Goals as goal
 
 pub happen-answer-requires : goal.happen-answer-requires
-happen-answer-requires c = (reads_on _ _ _ _ _ _ c.read_field.ensures c.in-Taken.is).words
+happen-answer-requires c = ?
 
-pub overflow_sub-next : goal.overflow_sub-next
-overflow_sub-next c = (reads_on _ _ _ _ _ _ c.read_field.ensures c.in-Taken.is).further
+pub overflow_sub-taken : goal.overflow_sub-taken
+overflow_sub-taken c = ?
 
-pub returns-in-Taken : goal.returns-in-Taken
-returns-in-Taken c =
-    field_taken _ _ _ _ _ _ _ c.read_field.ensures _ _ c.in-Taken.is _ _ _ _ _ _
-    c.happen-answer.ensures c.put_answer.ensures c.pass.new.self (search rules)
+pub returns-in-Ok-Some : goal.returns-in-Ok-Some
+returns-in-Ok-Some c = ?
 
-pub returns-in-End : goal.returns-in-End
-returns-in-End c = search (rules, meeting) depth 9
+pub returns-in-Ok-None : goal.returns-in-Ok-None
+returns-in-Ok-None c = search (rules, meeting) depth 9
 
-pub returns-in-Refused : goal.returns-in-Refused
-returns-in-Refused c = search (rules, meeting) depth 9
+pub returns-in-Err : goal.returns-in-Err
+returns-in-Err c = search (rules, meeting) depth 9
