@@ -4,7 +4,6 @@
 --     LineLaws       the lines, as the code writes them
 --     TurnLaws       one field of a window
 --     RowTurns       a row of data words, taken at once, is as many turns
---     LoopLaws       field after field
 --     AnswerLaws     an answer of the reader tells all of a reading
 --     Determined     each public contract allows one outcome alone
 pub mod ReadingLaws
@@ -12,6 +11,5 @@ pub mod TakenLaws
 pub mod LineLaws
 pub mod TurnLaws
 pub mod RowTurns
-pub mod LoopLaws
 pub mod AnswerLaws
 pub mod Determined
