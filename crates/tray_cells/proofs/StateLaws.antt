@@ -20,7 +20,7 @@ use Rattle.message.specs.declared.state.Stage.TheVariants.{
 }
 use Rattle.message.specs.declared.state.OpenMessage.{OpenMessage}
 use Rattle.terminal.specs.declared.state.Core.{Core}
-use Rattle.terminal.specs.declared.state.Held.{Held}
+use Rattle.queue.specs.declared.Queue.{Queue}
 use Rattle.lines.specs.Digits.{hex_byte, hex_word, decimal}
 use Rattle.lines.specs.Lines.{blank, newline}
 use Rattle.lines.specs.Written.{Put, put}
@@ -100,17 +100,17 @@ module _ {out : List ℕ} {at : ℕ} {after : List ℕ} {next : ℕ} where
   unfolding waiting_text
   waiting_none places ring none fits = rw none fits
 
-  pub state_none : (run : HeldTray) (places : List ℕ) → run.seen.setup ≡ false
+  pub state_none : (run : HeldTray) → run.seen.setup ≡ false
       → Fits out at (bytes "terminal none\n") after next
-      → put next after ≡ fitted out at (state_text run places)
+      → put next after ≡ fitted out at (state_text run)
   unfolding state_text
-  state_none run places is fits = rw is fits.is_fitted
+  state_none run is fits = rw is fits.is_fitted
 
-  pub state_some : (run : HeldTray) (places : List ℕ) → run.seen.setup ≡ true
-      → Fits out at (terminal_text run.held places) after next
-      → put next after ≡ fitted out at (state_text run places)
+  pub state_some : (run : HeldTray) → run.seen.setup ≡ true
+      → Fits out at (terminal_text run.core run.queue) after next
+      → put next after ≡ fitted out at (state_text run)
   unfolding state_text
-  state_some run places is fits = rw is fits.is_fitted
+  state_some run is fits = rw is fits.is_fitted
 
 -- ---- part after part
 
@@ -120,12 +120,12 @@ module _ {out out₁ after : List ℕ} {at at₁ next : ℕ} where
       → Fits out at (blank ∷ decimal block) after next
   block_fits block first second = fits_then first second
 
-  pub queue_fits : (places : List ℕ) (ring : Ring)
-      → Fits out at (line "overflow " (mark_text ring.overflow)) out₁ at₁
-      → Fits out₁ at₁ (waiting_text places ring) after next
-      → Fits out at (queue_text places ring) after next
+  pub queue_fits : (queue : Queue)
+      → Fits out at (line "overflow " (mark_text queue.ring.overflow)) out₁ at₁
+      → Fits out₁ at₁ (waiting_text queue.places queue.ring) after next
+      → Fits out at (queue_text queue) after next
   unfolding queue_text
-  queue_fits places ring first second = fits_then first second
+  queue_fits queue first second = fits_then first second
 
   pub remembered_fits : (core : Core)
       → Fits out at (line "status " (hex_word core.status)) out₁ at₁
@@ -190,13 +190,13 @@ module _ {out out₁ out₂ : List ℕ} {at at₁ at₂ : ℕ} where
   unfolding core_text
   core_fits core first second third = fits_then (fits_then first second) third
 
-  pub terminal_fits : {after : List ℕ} {next : ℕ} (held : Held) (places : List ℕ)
-      → Fits out at (core_text held.core) out₁ at₁
-      → Fits out₁ at₁ (queue_text places held.ring) out₂ at₂
-      → Fits out₂ at₂ (message_text held.core.message) after next
-      → Fits out at (terminal_text held places) after next
+  pub terminal_fits : {after : List ℕ} {next : ℕ} (core : Core) (queue : Queue)
+      → Fits out at (core_text core) out₁ at₁
+      → Fits out₁ at₁ (queue_text queue) out₂ at₂
+      → Fits out₂ at₂ (message_text core.message) after next
+      → Fits out at (terminal_text core queue) after next
   unfolding terminal_text
-  terminal_fits held places first second third = fits_then (fits_then first second) third
+  terminal_fits core queue first second third = fits_then (fits_then first second) third
 
   module _ {out₃ : List ℕ} {at₃ : ℕ} where
     pub opened_fits : {after : List ℕ} {next : ℕ} (opened : ℕ)

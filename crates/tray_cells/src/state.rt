@@ -28,9 +28,9 @@ ghost use Rattle.tray_cells.specs.State.{
 };
 
 use message::state::{OpenMessage, Stage};
-use queue::Ring;
+use queue::{Queue, Ring};
 use shown::{item, text};
-use terminal::state::{Core, Held};
+use terminal::state::Core;
 use tray::Tray;
 
 // ---- the open message
@@ -163,12 +163,12 @@ fn put_waiting(out: &mut [u8], at: usize, ring: Ring, places: &[u16; 256]) -> us
     text::put_byte(out, second, b'\n')
 }
 
-fn put_queue(out: &mut [u8], at: usize, ring: Ring, places: &[u16; 256]) -> usize
-    ensures { Fits out.old at (queue_text places.now ring)
+fn put_queue(out: &mut [u8], at: usize, queue: &Queue) -> usize
+    ensures { Fits out.old at (queue_text queue.now)
         out.new result }
 {
-    let next = item::put_mark(out, at, b"overflow ", ring.overflow, b'\n');
-    put_waiting(out, next, ring, places)
+    let next = item::put_mark(out, at, b"overflow ", queue.ring.overflow, b'\n');
+    put_waiting(out, next, queue.ring, &queue.places)
 }
 
 // ---- the terminal
@@ -221,27 +221,22 @@ fn put_core(out: &mut [u8], at: usize, core: Core) -> usize
     put_switches(out, second, core)
 }
 
-fn put_terminal(out: &mut [u8], at: usize, held: Held, places: &[u16; 256]) -> usize
-    ensures { Fits out.old at (terminal_text held places.now)
+fn put_terminal(out: &mut [u8], at: usize, core: Core, queue: &Queue) -> usize
+    ensures { Fits out.old at (terminal_text core queue.now)
         out.new result }
 {
-    let core = held.core;
-    let ring = held.ring;
-    let message = core.message;
     let first = put_core(out, at, core);
-    let second = put_queue(out, first, ring, places);
-    put_message(out, second, message)
+    let second = put_queue(out, first, queue);
+    put_message(out, second, core.message)
 }
 
 // Every item of the state. Before a setup was taken there is no terminal.
-pub fn put_state(out: &mut [u8], at: usize, tray: Tray, places: &[u16; 256]) -> usize
+pub fn put_state(out: &mut [u8], at: usize, tray: &Tray) -> usize
     ensures { put result out.new
-        ≡ fitted out.old at (state_text tray places.now) }
+        ≡ fitted out.old at (state_text tray.now) }
 {
-    let held = tray.held;
-    let seen = tray.seen;
-    if seen.setup {
-        return put_terminal(out, at, held, places);
+    if tray.seen.setup {
+        return put_terminal(out, at, tray.core, &tray.queue);
     }
     text::put_text(out, at, b"terminal none\n")
 }

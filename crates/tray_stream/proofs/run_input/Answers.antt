@@ -3,16 +3,16 @@
 use Rattle.std.proofs.Common.{◌≡◌, refl, arith, replicate}
 use Rattle.card.specs.Memory.{card_words}
 use Rattle.tray.specs.declared.run.Tray.{Tray as HeldTray}
-use Rattle.tray.specs.Run.{tray_at_start}
+use Rattle.tray.specs.Run.{tray_over, tray_at_start}
 use Rattle.tray.specs.AsCoded.Held.{tray_of, held_at_start}
 use Rattle.tray_laws.proofs.SteadyLaws.{tray_is_steady}
 use Rattle.stream.proofs.LoopLaws.{came_from, known_from}
 use Rattle.tray_stream.proofs.run_input.Goals as goal
 
-starts : (tray : HeldTray) → tray ≡ held_at_start
-    → tray_of tray (replicate card_words 0) ≡ tray_at_start
-unfolding held_at_start tray_at_start
-starts tray is = rw is refl
+starts : (run : HeldTray) → run ≡ held_at_start
+    → tray_of run (replicate card_words 0) ≡ tray_at_start
+unfolding held_at_start tray_at_start tray_over
+starts run is = rw is refl
 
 pub returns : goal.returns
 returns g c =

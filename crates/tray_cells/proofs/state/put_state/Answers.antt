@@ -3,8 +3,8 @@ use borrow.Author.Rules.{rules}
 use Rattle.tray_cells.proofs.StateLaws.{state_none, state_some}
 use Rattle.tray_cells.proofs.state.put_state.Goals as goal
 
-pub returns-then-seen : goal.returns-then-seen
-returns-then-seen c = search (rules, state_none, state_some)
+pub returns-then-tray : goal.returns-then-tray
+returns-then-tray c = search (rules, state_none, state_some)
 
 pub returns : goal.returns
 returns c = search (rules, state_none, state_some)
