@@ -8,6 +8,7 @@ use native.Mathlib.Nat.{add-zero}
 use native.Mathlib.Omega.{arith}
 use lib.ListN.{length}
 use borrow.Author.Tests.{lt-leb}
+use Rattle.std.proofs.Common.{None}
 use Rattle.rules.proofs.Cases.{beq_same}
 use Rattle.bus.specs.declared.word.Word.{Word}
 use Rattle.bus.specs.DataWords.{DataWord, DataWords, no_words, a_word, values_of}
@@ -18,11 +19,10 @@ use Rattle.exchange.specs.declared.order.Order.{Order}
 use Rattle.exchange.specs.declared.state.Stage.TheVariants.{Reply}
 use Rattle.exchange.specs.Order.{format_for}
 use Rattle.exchange.specs.Judge.{exchange_of, data_heard, word_heard, on_word}
-use Rattle.controller.specs.declared.state.Result.TheVariants.{Absent}
 use Rattle.controller.specs.declared.state.Controller.{Controller}
 use Rattle.controller.specs.Control.{block_in, line_in}
 use Rattle.controller.specs.State.{Desk, desk, open_back, with_message}
-use Rattle.controller.specs.Heard.{Heard, heard_as, word_done, word_met, word_step, words_step}
+use Rattle.controller.specs.Heard.{Heard, heard_as, word_step, words_step}
 
 module _ (state : Controller) (order : Order) (mark : Bool) where
   -- in the reply to an order, with so many data words in
@@ -40,9 +40,9 @@ module _ (state : Controller) (order : Order) (mark : Bool) where
   pub word_is_stored : (heard : Word) (taken : ℕ) (ram : List ℕ) → DataWord line heard
       → taken < (format_for order).reply
       → word_step heard (reply_at taken ram)
-      ≡ heard_as Absent (reply_at (taken + 1)
+      ≡ heard_as None (reply_at (taken + 1)
       (with_cell ram block (the_cell (reply_cell (format_for order) + taken)) heard.value))
-  unfolding word_step word_met word_done on_word word_heard data_heard with_message
+  unfolding word_step on_word word_heard data_heard with_message
   word_is_stored heard taken ram is more =
       rw (
         is.same_line,

@@ -5,6 +5,7 @@ use mathlib.Core.Path.{◌≡◌, refl, sym, ◌∙◌, ap}
 use mathlib.Core.Bool.{Bool, not, beq}
 use Prim.Native.Nat.{◌<◌}
 use native.Mathlib.Omega.{arith}
+use Rattle.std.proofs.Common.{Option, Some, None}
 use Rattle.rules.proofs.Choices.{by_test}
 use Rattle.bus.specs.declared.word.Word.{Word}
 use Rattle.card.specs.declared.place.Block.{Block}
@@ -13,7 +14,6 @@ use Rattle.card.specs.Memory.{block_cells, the_cell, word_address, cell_at}
 use Rattle.card.proofs.MemoryLaws.{length_with_cell}
 use Rattle.card.proofs.Frame.{cell_keeps}
 use Rattle.formats.specs.declared.code.Coded.{Coded}
-use Rattle.formats.specs.declared.code.Coded.TheVariants.{Format, Lacking}
 use Rattle.formats.specs.Row.{highest_cell}
 use Rattle.formats.specs.Code.{coded_by}
 use Rattle.exchange.specs.declared.judge.WordAct.{WordAct}
@@ -23,14 +23,11 @@ use Rattle.exchange.specs.declared.judge.SilenceAct.TheVariants.{GoOn, End}
 use Rattle.exchange.specs.declared.judge.SilenceAct.TheVariants as silent
 use Rattle.exchange.specs.Order.{format_for}
 use Rattle.exchange.proofs.CellLaws.{BehindGiven, not_taken, taken, stored_behind_given}
-use Rattle.controller.specs.declared.state.Progress.{Progress}
-use Rattle.controller.specs.declared.state.Progress.TheVariants.{Given, Back}
+use Rattle.exchange.specs.declared.state.Exchange.{Exchange}
 use Rattle.controller.specs.declared.state.OpenMessage.{OpenMessage}
-use Rattle.controller.specs.declared.state.Message.{Message}
-use Rattle.controller.specs.declared.state.Message.TheVariants.{Idle, Open}
 use Rattle.controller.specs.Control.{block_in, line_in, code_in}
 use Rattle.controller.specs.State.{Desk}
-use Rattle.controller.specs.Start.{Started, may_start, starting, starting_by, start_step}
+use Rattle.controller.specs.Start.{Started, may_start, starting_by, start_step}
 use Rattle.controller.specs.Heard.{
   Heard,
   ended,
@@ -56,10 +53,10 @@ nothing_written old new same =
     }
 
 module _ (word : Word) (old : Desk) (message : OpenMessage)
-    (is_open : old.state.message ≡ Open message) where
+    (is_open : old.state.message ≡ Some message) where
   act_writes : (act : WordAct) → BehindGiven message.order act
       → WritesOnlyBack old (word_done act message word old).desk
-  unfolding word_done ended
+  unfolding ended
   act_writes (Fault code) behind =
       nothing_written old (word_done (Fault code) message word old).desk refl
   act_writes (Take cell next) (taken least most) =
@@ -81,17 +78,17 @@ module _ (word : Word) (old : Desk) (message : OpenMessage)
             }));
       }
 
-  in_progress : (progress : Progress)
+  in_progress : (progress : Option Exchange)
       → BehindGiven message.order (word_in progress message.order word)
-  in_progress Given =
+  in_progress None =
       by_test (BehindGiven message.order) (not word.sound) (λ is. not_taken) (λ is. not_taken)
-  in_progress (Back so_far) = stored_behind_given message.order so_far word
+  in_progress (Some so_far) = stored_behind_given message.order so_far word
 
-met_writes : (word : Word) (old : Desk) (message : Message) → old.state.message ≡ message
+met_writes : (word : Word) (old : Desk) (message : Option OpenMessage)
+    → old.state.message ≡ message
     → WritesOnlyBack old (word_met message word old).desk
-unfolding word_met
-met_writes word old Idle is = nothing_written old old refl
-met_writes word old (Open message) is =
+met_writes word old None is = nothing_written old old refl
+met_writes word old (Some message) is =
     by_test (λ (heard : Heard). WritesOnlyBack old heard.desk)
     (beq word.line (line_in old.state.control))
     (λ here.
@@ -108,16 +105,15 @@ word_writes_only_back word old = met_writes word old old.state.message refl
 
 act_silent : (act : SilenceAct) (message : OpenMessage) (old : Desk)
     → (silence_done act message old).desk.ram ≡ old.ram
-unfolding silence_done ended
+unfolding ended
 act_silent (silent.Fault code) message old = refl
 act_silent (GoOn next) message old = refl
 act_silent End message old = refl
 
-met_silent : (message : Message) (line : Bool) (old : Desk)
+met_silent : (message : Option OpenMessage) (line : Bool) (old : Desk)
     → (silence_met message line old).desk.ram ≡ old.ram
-unfolding silence_met
-met_silent Idle line old = refl
-met_silent (Open message) line old =
+met_silent None line old = refl
+met_silent (Some message) line old =
     by_test (λ (heard : Heard). heard.desk.ram ≡ old.ram)
     (beq line (line_in old.state.control))
     (λ here. act_silent (silence_in message.progress message.order) message old)
@@ -128,10 +124,10 @@ pub silence_writes_nothing : (line : Bool) (old : Desk)
 unfolding silence_step
 silence_writes_nothing line old = met_silent old.state.message line old
 
-code_writes_nothing : (coded : Coded) (old : Desk) → (starting_by coded old).desk.ram ≡ old.ram
-unfolding starting_by starting
-code_writes_nothing (Format row broadcast) old = refl
-code_writes_nothing Lacking old = refl
+code_writes_nothing : (coded : Option Coded) (old : Desk)
+    → (starting_by coded old).desk.ram ≡ old.ram
+code_writes_nothing (Some coded) old = refl
+code_writes_nothing None old = refl
 
 pub start_writes_nothing : (old : Desk) → (start_step old).desk.ram ≡ old.ram
 unfolding start_step
@@ -141,11 +137,11 @@ start_writes_nothing old =
     (λ may_not. refl)
 
 -- the open message is one
-open_message : {one other : OpenMessage} → Open one ≡ Open other → one ≡ other
+open_message : {one other : OpenMessage} → Some one ≡ Some other → one ≡ other
 open_message {one} {other} same = ap unopened same where
-  unopened : Message → OpenMessage
-  unopened Idle = one
-  unopened (Open message) = message
+  unopened : Option OpenMessage → OpenMessage
+  unopened None = one
+  unopened (Some message) = message
 
 -- ---- the cells that a reader of the chain looks for
 
@@ -172,7 +168,7 @@ module _ (word : Word) (old : Desk) where
   links_kept block = high_cells_kept block (the_cell 63) (omega arith) (omega arith)
 
   -- the words given are kept, as many as the open message has given
-  pub given_kept : (message : OpenMessage) → old.state.message ≡ Open message
+  pub given_kept : (message : OpenMessage) → old.state.message ≡ Some message
       → (cell : Cell) → cell.0 < (format_for message.order).given
       → cell_at (word_step word old).desk.ram (block_in old.state.control) cell
       ≡ cell_at old.ram (block_in old.state.control) cell

@@ -1,6 +1,6 @@
 -- The data words of a reply: which are wanted, and a row of them, stored at once. No rule asks for
 -- rows: a row is as many words heard (`proofs/RowWords`). Definitions only. Assumes nothing.
-use Rattle.std.specs.Prelude.{cond, List, ℕ, ◌+◌, ltb, length}
+use Rattle.std.specs.Prelude.{cond, List, ℕ, ◌+◌, ltb, length, Option, Some, None}
 use Rattle.bus.specs.declared.word.Word.{Word}
 use Rattle.bus.specs.DataWords.{values_of}
 use Rattle.card.specs.Memory.{with_cells}
@@ -11,51 +11,53 @@ use Rattle.exchange.specs.declared.state.Stage.{Stage}
 use Rattle.exchange.specs.declared.state.Stage.TheVariants.{Awaiting, Reply, AwaitingLast, Ended}
 use Rattle.exchange.specs.Order.{format_for}
 use Rattle.exchange.specs.Judge.{exchange_of}
-use Rattle.controller.specs.declared.state.Progress.{Progress}
-use Rattle.controller.specs.declared.state.Progress.TheVariants.{Given, Back}
-use Rattle.controller.specs.declared.state.Message.{Message}
-use Rattle.controller.specs.declared.state.Message.TheVariants.{Idle, Open}
+use Rattle.exchange.specs.declared.state.Exchange.{Exchange}
+use Rattle.controller.specs.declared.state.OpenMessage.{OpenMessage}
 use Rattle.controller.specs.declared.state.Controller.{Controller}
 use Rattle.controller.specs.declared.row.Wanted.{Wanted}
-use Rattle.controller.specs.declared.row.Wanted.TheVariants.{Nothing, Words}
 use Rattle.controller.specs.Control.{block_in, line_in}
 use Rattle.controller.specs.State.{Desk, desk, with_message}
 
 -- ---- the words that are wanted
 
 -- behind a status: those of its reply that are not in
-abbrev pub wanted_at : Stage → ℕ → Format → ℕ → Wanted
-wanted_at Awaiting control format taken = Nothing
+abbrev pub wanted_at : Stage → ℕ → Format → ℕ → Option Wanted
+wanted_at Awaiting control format taken = None
 wanted_at Reply control format taken =
     cond (ltb taken format.reply)
-    (Words (block_in control) (reply_cell format + taken) (last_cell format) (line_in control)
-    taken)
-    Nothing
-wanted_at AwaitingLast control format taken = Nothing
-wanted_at Ended control format taken = Nothing
+    (Some (record {
+      block = block_in control;
+      cell = reply_cell format + taken;
+      end = last_cell format;
+      line = line_in control;
+      taken = taken;
+    }))
+    None
+wanted_at AwaitingLast control format taken = None
+wanted_at Ended control format taken = None
 
-abbrev pub wanted_in : Progress → Order → ℕ → Wanted
-wanted_in Given order control = Nothing
-wanted_in (Back so_far) order control =
+abbrev pub wanted_in : Option Exchange → Order → ℕ → Option Wanted
+wanted_in None order control = None
+wanted_in (Some so_far) order control =
     wanted_at so_far.stage control (format_for order) so_far.taken
 
-abbrev pub wanted_of : Message → ℕ → Wanted
-wanted_of Idle control = Nothing
-wanted_of (Open message) control = wanted_in message.progress message.order control
+abbrev pub wanted_of : Option OpenMessage → ℕ → Option Wanted
+wanted_of None control = None
+wanted_of (Some message) control = wanted_in message.progress message.order control
 
-unfoldable pub words_wanted : Controller → Wanted
+unfoldable pub words_wanted : Controller → Option Wanted
 words_wanted state = wanted_of state.message state.control
 
 -- ---- some of them are in
 
-abbrev pub progress_with : ℕ → Progress → Progress
-progress_with taken Given = Given
-progress_with taken (Back so_far) = Back (exchange_of so_far.stage taken so_far.mark)
+abbrev pub progress_with : ℕ → Option Exchange → Option Exchange
+progress_with taken None = None
+progress_with taken (Some so_far) = Some (exchange_of so_far.stage taken so_far.mark)
 
-abbrev pub message_with : ℕ → Message → Message
-message_with taken Idle = Idle
-message_with taken (Open message) =
-    Open (record { order = message.order; progress = progress_with taken message.progress })
+abbrev pub message_with : ℕ → Option OpenMessage → Option OpenMessage
+message_with taken None = None
+message_with taken (Some message) =
+    Some (record { order = message.order; progress = progress_with taken message.progress })
 
 unfoldable pub with_taken : ℕ → Controller → Controller
 with_taken taken state = with_message (message_with taken state.message) state

@@ -1,206 +1,121 @@
 // Words and silences that come back, and the end of a message: decided first, then done. These are
 // total: a memory of another length is refused by the actions.
-ghost use Rattle.std.specs.Prelude.{◌≡◌};
-ghost use Rattle.controller.specs.State.{desk, open_back, with_message};
+ghost use Rattle.std.specs.Prelude.{◌≡◌, Some};
+ghost use Rattle.controller.specs.State.{desk, open_back};
 ghost use Rattle.controller.specs.Heard.{
   heard_as,
   ended,
   mark_of,
   word_in,
-  word_done,
   word_step,
   silence_in,
-  silence_done,
   silence_step,
 };
 
 use crate::control;
-use crate::state::{Controller, Message, OpenMessage, Progress, Result};
+use crate::state::{Came, Controller, OpenMessage};
 use bus::word::Word;
 use card::memory;
 use card::place::Cell;
 use exchange::judge::{SilenceAct, WordAct};
-use exchange::order::Order;
 use exchange::state::Exchange;
-
-// What a word or a silence leaves: the result where it ends the message, and the controller.
-#[derive(Clone, Copy)]
-pub struct Heard {
-    pub result: Result,
-    pub controller: Controller,
-}
 
 impl OpenMessage {
     // The mark so far.
-    fn mark(self) -> bool
-        ensures { result ≡ mark_of self.progress }
+    fn mark(&self) -> bool
+        ensures { result ≡ mark_of self.now.progress }
     {
-        let progress = self.progress;
-        match progress {
-            Progress::Given => false,
-            Progress::Back(exchange) => exchange.mark,
+        self.progress.is_some_and(|exchange| exchange.mark)
+    }
+
+    // The message goes on, answered so far.
+    fn answered(self, exchange: Exchange) -> OpenMessage
+        ensures { Some result ≡ open_back self.order exchange }
+    {
+        OpenMessage {
+            progress: Some(exchange),
+            ..self
         }
     }
 
     // What a word is to do. Before the first silence any word is out of place.
-    fn on_word(self, word: Word) -> WordAct
-        ensures { result ≡ word_in self.progress self.order word }
+    fn on_word(&self, word: Word) -> WordAct
+        ensures { result ≡ word_in self.now.progress self.now.order word }
     {
-        let progress = self.progress;
-        let Progress::Back(exchange) = progress else {
-            let sound = word.sound;
-            if !sound {
-                return WordAct::Fault(1);
-            }
-            return WordAct::Fault(7);
-        };
-        let order = self.order;
-        exchange.on_word(order, word)
+        match self.progress {
+            Some(exchange) => exchange.on_word(self.order, word),
+            None if !word.sound => WordAct::Fault(1),
+            None => WordAct::Fault(7),
+        }
     }
 
     // What a silence is to do. The first one ends the message where no status comes back.
-    fn on_silence(self) -> SilenceAct
-        ensures { result ≡ silence_in self.progress self.order }
+    fn on_silence(&self) -> SilenceAct
+        ensures { result ≡ silence_in self.now.progress self.now.order }
     {
-        let progress = self.progress;
-        let order = self.order;
-        let Progress::Back(exchange) = progress else {
-            let format = order.format();
-            if format.status {
-                return SilenceAct::GoOn(Exchange::at_first());
-            }
-            return SilenceAct::End;
-        };
-        exchange.on_silence(order)
+        match self.progress {
+            Some(exchange) => exchange.on_silence(self.order),
+            None if self.order.format().status => SilenceAct::GoOn(Exchange::at_first()),
+            None => SilenceAct::End,
+        }
     }
 }
 
 impl Controller {
     // The end of the message: the chain goes on after code 0, the mark clear and bit 4 set.
-    fn end(self, ram: &[u16], code: u16, mark: bool) -> Heard
-        ensures { heard_as result.result (desk result.controller ram.now)
-            ≡ ended code mark (desk self ram.now) }
+    #[tactic(auto, unfolding(crate::specs::Heard::ended))]
+    fn end(&mut self, ram: &[u16], code: u16, mark: bool) -> Option<Came>
+        ensures { heard_as result (desk self.new ram.now)
+            ≡ ended code mark (desk self.old ram.now) }
     {
-        let old = self.control;
-        let on = (code == 0) & !mark & control::goes_on(old);
-        let next = memory::read_cell(ram, control::block(old), Cell(63));
-        let control = if on { next } else { old };
-        Heard {
-            result: Result::Came {
-                code: code,
-                mark: mark,
-            },
-            controller: Controller {
-                control: control,
-                count: self.count,
-                due: on,
-                result: Result::Came {
-                    code: code,
-                    mark: mark,
-                },
-                message: Message::Idle,
-            },
+        self.due = code == 0 && !mark && control::goes_on(self.control);
+        if self.due {
+            self.control = memory::read_cell(ram, control::block(self.control), Cell(63));
         }
+        self.result = Some(Came { code, mark });
+        self.message = None;
+        self.result
     }
 
-    // The message goes on.
-    pub(crate) fn go_on(self, order: Order, exchange: Exchange) -> Controller
-        ensures { result
-            ≡ with_message (open_back order exchange) self }
+    // A word, over a memory of any length. Only words of the message's line have an effect. One
+    // that is taken is stored, in the cell of its number on the bus; one that brings a fault is
+    // not.
+    #[tactic(auto, unfolding(crate::specs::Heard::word_step, crate::specs::State::with_message))]
+    pub fn hear_word(&mut self, ram: &mut [u16], word: Word) -> Option<Came>
+        ensures { heard_as result (desk self.new ram.new)
+            ≡ word_step word (desk self.old ram.old) }
     {
-        let result = self.result;
-        Controller {
-            control: self.control,
-            count: self.count,
-            due: self.due,
-            result: result,
-            message: Message::Open(OpenMessage {
-                order: order,
-                progress: Progress::Back(exchange),
-            }),
+        let message = self.message?;
+        if word.line != control::line(self.control) {
+            return None;
         }
-    }
-
-    // A word that is taken is stored, in the cell of its number on the bus; one that brings a fault
-    // is not.
-    fn word_done(self, act: WordAct, message: OpenMessage, ram: &mut [u16], word: Word) -> Heard
-        ensures { heard_as result.result (desk result.controller ram.new)
-            ≡ word_done act message word (desk self ram.old) }
-    {
-        match act {
+        match message.on_word(word) {
             WordAct::Fault(code) => self.end(ram, code, message.mark()),
             WordAct::Take(cell, exchange) => {
-                let block = control::block(self.control);
-                memory::write_cell(ram, block, Cell(cell), word.value);
-                let order = message.order;
-                Heard {
-                    result: Result::Absent,
-                    controller: self.go_on(order, exchange),
-                }
+                memory::write_cell(ram, control::block(self.control), Cell(cell), word.value);
+                self.message = Some(message.answered(exchange));
+                None
             }
-        }
-    }
-
-    // A word, over a memory of any length. Only words of the message's line have an effect.
-    pub fn hear_word(self, ram: &mut [u16], word: Word) -> Heard
-        ensures { heard_as result.result (desk result.controller ram.new)
-            ≡ word_step word (desk self ram.old) }
-    {
-        let held = self.message;
-        let Message::Open(message) = held else {
-            return Heard {
-                result: Result::Absent,
-                controller: self,
-            };
-        };
-        let here = word.line == control::line(self.control);
-        if !here {
-            return Heard {
-                result: Result::Absent,
-                controller: self,
-            };
-        }
-        let act = message.on_word(word);
-        self.word_done(act, message, ram, word)
-    }
-
-    fn silence_done(self, act: SilenceAct, message: OpenMessage, ram: &[u16]) -> Heard
-        ensures { heard_as result.result (desk result.controller ram.now)
-            ≡ silence_done act message (desk self ram.now) }
-    {
-        match act {
-            SilenceAct::Fault(code) => self.end(ram, code, message.mark()),
-            SilenceAct::GoOn(exchange) => {
-                let order = message.order;
-                Heard {
-                    result: Result::Absent,
-                    controller: self.go_on(order, exchange),
-                }
-            }
-            SilenceAct::End => self.end(ram, 0, message.mark()),
         }
     }
 
     // A silence, over a memory of any length. Only those of the message's line have an effect.
-    pub fn hear_silence(self, ram: &[u16], line: bool) -> Heard
-        ensures { heard_as result.result (desk result.controller ram.now)
-            ≡ silence_step line (desk self ram.now) }
+    #[tactic(auto, unfolding(crate::specs::Heard::silence_step, crate::specs::State::with_message))]
+    pub fn hear_silence(&mut self, ram: &[u16], line: bool) -> Option<Came>
+        ensures { heard_as result (desk self.new ram.now)
+            ≡ silence_step line (desk self.old ram.now) }
     {
-        let held = self.message;
-        let Message::Open(message) = held else {
-            return Heard {
-                result: Result::Absent,
-                controller: self,
-            };
-        };
-        let here = line == control::line(self.control);
-        if !here {
-            return Heard {
-                result: Result::Absent,
-                controller: self,
-            };
+        let message = self.message?;
+        if line != control::line(self.control) {
+            return None;
         }
-        let act = message.on_silence();
-        self.silence_done(act, message, ram)
+        match message.on_silence() {
+            SilenceAct::Fault(code) => self.end(ram, code, message.mark()),
+            SilenceAct::GoOn(exchange) => {
+                self.message = Some(message.answered(exchange));
+                None
+            }
+            SilenceAct::End => self.end(ram, 0, message.mark()),
+        }
     }
 }

@@ -5,89 +5,63 @@ ghost use Rattle.formats.specs.Row.{last_cell, highest_cell};
 ghost use Rattle.controller.specs.Row.{wanted_at, words_wanted, with_taken};
 
 use crate::control;
-use crate::state::{Controller, Message, Progress};
+use crate::state::{Controller, OpenMessage};
 use card::place::Block;
 use exchange::state::{Exchange, Stage};
 use formats::row::Format;
 
 // The data words that the open message waits for.
 #[derive(Clone, Copy)]
-pub enum Wanted {
-    Nothing,
-    Words {
-        block: Block,
-        // the next one's cell, and the cell behind the last
-        cell: u16,
-        end: u16,
-        // line B
-        line: bool,
-        // how many are in
-        taken: u16,
-    },
+pub struct Wanted {
+    pub block: Block,
+    // the next one's cell, and the cell behind the last
+    pub cell: u16,
+    pub end: u16,
+    // line B
+    pub line: bool,
+    // how many are in
+    pub taken: u16,
 }
 
 // Behind a status: the words of its reply that are not in.
-fn wanted_at(control: u16, format: Format, exchange: Exchange) -> Wanted
+fn wanted_at(control: u16, format: Format, exchange: Exchange) -> Option<Wanted>
     requires { last_cell format ≤ highest_cell }
     ensures { result ≡ wanted_at exchange.stage control format exchange.taken }
 {
-    let stage = exchange.stage;
-    match stage {
-        Stage::Awaiting => Wanted::Nothing,
-        Stage::Reply => {
-            if format.reply <= exchange.taken {
-                return Wanted::Nothing;
-            }
-            Wanted::Words {
-                block: control::block(control),
-                cell: format.given + 1 + exchange.taken,
-                end: format.given + 1 + format.reply,
-                line: control::line(control),
-                taken: exchange.taken,
-            }
-        }
-        Stage::AwaitingLast => Wanted::Nothing,
-        Stage::Ended => Wanted::Nothing,
+    match exchange.stage {
+        Stage::Reply if exchange.taken < format.reply => Some(Wanted {
+            block: control::block(control),
+            cell: format.given + 1 + exchange.taken,
+            end: format.given + 1 + format.reply,
+            line: control::line(control),
+            taken: exchange.taken,
+        }),
+        _ => None,
     }
 }
 
 impl Controller {
-    pub fn words_wanted(self) -> Wanted
-        ensures { result ≡ words_wanted self }
+    #[tactic(auto, unfolding(crate::specs::Row::words_wanted))]
+    pub fn words_wanted(&self) -> Option<Wanted>
+        ensures { result ≡ words_wanted self.now }
     {
-        let held = self.message;
-        let Message::Open(message) = held else {
-            return Wanted::Nothing;
-        };
-        let progress = message.progress;
-        let Progress::Back(exchange) = progress else {
-            return Wanted::Nothing;
-        };
-        let order = message.order;
-        wanted_at(self.control, order.format(), exchange)
+        let message = self.message?;
+        wanted_at(self.control, message.order.format(), message.progress?)
     }
 
     // So many data words of the reply are in, where one is open.
-    pub fn with_taken(self, taken: u16) -> Controller
-        ensures { result ≡ with_taken taken self }
+    #[tactic(auto, unfolding(crate::specs::Row::with_taken, crate::specs::State::with_message))]
+    pub fn set_taken(&mut self, taken: u16)
+        ensures { self.new ≡ with_taken taken self.old }
     {
-        let held = self.message;
-        let Message::Open(message) = held else {
-            return self;
-        };
-        let progress = message.progress;
-        let Progress::Back(exchange) = progress else {
-            return self;
-        };
-        let order = message.order;
-        let stage = exchange.stage;
-        self.go_on(
-            order,
-            Exchange {
-                stage: stage,
-                taken: taken,
-                mark: exchange.mark,
+        if let Some(
+            OpenMessage {
+                progress: Some(exchange),
+                ..
             },
-        )
+        ) = &mut self.message
+        {
+            exchange.taken = taken;
+        }
     }
 }

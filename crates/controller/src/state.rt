@@ -1,6 +1,6 @@
 // What the controller holds, and setup. Every state can be used.
 ghost use Rattle.std.specs.Prelude.{◌≡◌};
-ghost use Rattle.controller.specs.State.{at_setup, is_idle};
+ghost use Rattle.controller.specs.State.{at_setup};
 
 use exchange::order::Order;
 use exchange::state::Exchange;
@@ -13,31 +13,19 @@ pub const DESK_WORDS: usize = 16384;
 
 // What became of a message.
 #[derive(Clone, Copy)]
-pub enum Result {
-    Absent,
-    // the fault code, 0 for none, and whether a bit besides the address was set in a status
-    Came { code: u16, mark: bool },
-}
-
-#[derive(Clone, Copy)]
-pub enum Progress {
-    // the words are given: the first silence is due
-    Given,
-    // that silence is behind it
-    Back(Exchange),
+pub struct Came {
+    // the fault code, 0 for none: a number, since a state may hold any
+    pub code: u16,
+    // a bit besides the address was set in a status
+    pub mark: bool,
 }
 
 // An open message: its row and commands as they were at the start, and how far it has come.
 #[derive(Clone, Copy)]
 pub struct OpenMessage {
     pub order: Order,
-    pub progress: Progress,
-}
-
-#[derive(Clone, Copy)]
-pub enum Message {
-    Idle,
-    Open(OpenMessage),
+    // how far the answer has come; none while the words are given and the first silence is due
+    pub progress: Option<Exchange>,
 }
 
 #[derive(Clone, Copy)]
@@ -49,19 +37,9 @@ pub struct Controller {
     // this control word's message is to be started
     pub due: bool,
     // the last result, until the next start
-    pub result: Result,
-    pub message: Message,
-}
-
-impl Message {
-    pub(crate) fn is_idle(self) -> bool
-        ensures { result ≡ is_idle self }
-    {
-        match self {
-            Message::Idle => true,
-            Message::Open(_) => false,
-        }
-    }
+    pub result: Option<Came>,
+    // the open message, where one is open
+    pub message: Option<OpenMessage>,
 }
 
 impl Controller {
@@ -70,11 +48,11 @@ impl Controller {
         ensures { result ≡ at_setup control count }
     {
         Controller {
-            control: control,
-            count: count,
+            control,
+            count,
             due: true,
-            result: Result::Absent,
-            message: Message::Idle,
+            result: None,
+            message: None,
         }
     }
 }

@@ -6,6 +6,7 @@ use mathlib.Core.List.{List, ◌++◌}
 use Prim.Native.Nat.{ℕ}
 use native.Mathlib.Omega.{arith}
 use lib.ListN.{length, take}
+use Rattle.std.proofs.Common.{Option, Some, None}
 use Rattle.exchange.specs.declared.order.Order.{Order}
 use Rattle.exchange.specs.declared.state.Stage.{Stage}
 use Rattle.exchange.specs.declared.state.Stage.TheVariants.{
@@ -14,12 +15,9 @@ use Rattle.exchange.specs.declared.state.Stage.TheVariants.{
   AwaitingLast,
   Ended,
 }
-use Rattle.controller.specs.declared.state.Result.{Result}
-use Rattle.controller.specs.declared.state.Result.TheVariants.{Absent, Came}
-use Rattle.controller.specs.declared.state.Progress.{Progress}
-use Rattle.controller.specs.declared.state.Progress.TheVariants.{Given, Back}
-use Rattle.controller.specs.declared.state.Message.{Message}
-use Rattle.controller.specs.declared.state.Message.TheVariants.{Idle, Open}
+use Rattle.controller.specs.declared.state.Came.{Came}
+use Rattle.exchange.specs.declared.state.Exchange.{Exchange}
+use Rattle.controller.specs.declared.state.OpenMessage.{OpenMessage}
 use Rattle.controller.specs.declared.state.Controller.{Controller}
 use Rattle.lines.specs.Lines.{blank, newline}
 use Rattle.lines.specs.declared.Page.{Page}
@@ -49,12 +47,12 @@ use Rattle.controller_cells.specs.State.{
   state_text,
 }
 
-of_result : (result : Result) → AtMost 49 (result_text result)
+of_result : (result : Option Came) → AtMost 49 (result_text result)
 unfolding result_text
-of_result Absent = record { bound = omega arith }
-of_result (Came code mark) =
-    both (named (bytes "result ") blank (of_decimal code))
-    (named (bytes "") newline (of_mark mark))
+of_result None = record { bound = omega arith }
+of_result (Some came) =
+    both (named (bytes "result ") blank (of_decimal came.code))
+    (named (bytes "") newline (of_mark came.mark))
 
 of_order : (order : Order) → AtMost 80 (order_text order)
 unfolding order_text
@@ -70,18 +68,18 @@ of_stage Reply = record { bound = omega arith }
 of_stage AwaitingLast = record { bound = omega arith }
 of_stage Ended = record { bound = omega arith }
 
-of_progress : (progress : Progress) → AtMost 68 (progress_text progress)
+of_progress : (progress : Option Exchange) → AtMost 68 (progress_text progress)
 unfolding progress_text
-of_progress Given = record { bound = omega arith }
-of_progress (Back answer) =
+of_progress None = record { bound = omega arith }
+of_progress (Some answer) =
     both (both (named (bytes "stage ") blank (of_stage answer.stage))
     (named (bytes "taken ") blank (of_decimal answer.taken)))
     (named (bytes "mark ") newline (of_mark answer.mark))
 
-of_message : (message : Message) → AtMost 148 (message_text message)
+of_message : (message : Option OpenMessage) → AtMost 148 (message_text message)
 unfolding message_text
-of_message Idle = record { bound = omega arith }
-of_message (Open message) = both (of_order message.order) (of_progress message.progress)
+of_message None = record { bound = omega arith }
+of_message (Some message) = both (of_order message.order) (of_progress message.progress)
 
 of_controller : (state : Controller) → AtMost 262 (controller_text state)
 unfolding controller_text words_text

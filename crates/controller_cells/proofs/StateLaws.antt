@@ -4,6 +4,7 @@ use mathlib.Core.Path.{◌≡◌, refl}
 use mathlib.Core.Bool.{Bool, true, false}
 use mathlib.Core.List.{◌++◌}
 use Prim.Native.Nat.{ℕ}
+use Rattle.std.proofs.Common.{Option, Some, None}
 use denote.Enum.Declared.{tag_of}
 use Rattle.formats.specs.contracts.row.Row.{the_type}
 use Rattle.formats.specs.declared.row.Row.{Row}
@@ -23,13 +24,8 @@ use Rattle.exchange.specs.declared.state.Stage.TheVariants.{
   Ended,
 }
 use Rattle.exchange.specs.declared.state.Exchange.{Exchange}
-use Rattle.controller.specs.declared.state.Result.{Result}
-use Rattle.controller.specs.declared.state.Result.TheVariants.{Absent, Came}
-use Rattle.controller.specs.declared.state.Progress.{Progress}
-use Rattle.controller.specs.declared.state.Progress.TheVariants.{Given, Back}
+use Rattle.controller.specs.declared.state.Came.{Came}
 use Rattle.controller.specs.declared.state.OpenMessage.{OpenMessage}
-use Rattle.controller.specs.declared.state.Message.{Message}
-use Rattle.controller.specs.declared.state.Message.TheVariants.{Idle, Open}
 use Rattle.lines.specs.Digits.{decimal}
 use Rattle.lines.specs.declared.Page.{Page}
 use Rattle.shown.specs.Text.{bytes, Fits}
@@ -59,7 +55,7 @@ numbered ModeWithWord = refl
 numbered ModeForWord = refl
 
 module _ {old new : Page} where
-  pub result_none : (result : Result) → result ≡ Absent
+  pub result_none : (result : Option Came) → result ≡ None
       → Fits old (bytes "result none\n") new
       → Fits old (result_text result) new
   unfolding result_text
@@ -86,13 +82,13 @@ module _ {old new : Page} where
         → Fits old (part "stage " (stage_text stage)) new
     stage_ended is fits = rw is fits
 
-  pub progress_given : (progress : Progress) → progress ≡ Given
+  pub progress_given : (progress : Option Exchange) → progress ≡ None
       → Fits old (bytes "stage given taken 0 mark 0\n") new
       → Fits old (progress_text progress) new
   unfolding progress_text
   progress_given progress is fits = rw is fits
 
-  pub message_idle : (message : Message) → message ≡ Idle
+  pub message_idle : (message : Option OpenMessage) → message ≡ None
       → Fits old (bytes "open none\n") new
       → Fits old (message_text message) new
   unfolding message_text
@@ -112,19 +108,20 @@ module _ {old new : Page} where
 
   -- ---- with its parts
 
-  pub result_came : (result : Result) (code : ℕ) (mark : Bool) → result ≡ Came code mark
-      → Fits old (part "result " (decimal code) ++ line "" (mark_text mark)) new
+  pub result_came : (result : Option Came) (came : Came) → result ≡ Some came
+      → Fits old (part "result " (decimal came.code) ++ line "" (mark_text came.mark)) new
       → Fits old (result_text result) new
   unfolding result_text
-  result_came result code mark is fits = rw is fits
+  result_came result came is fits = rw is fits
 
-  pub message_open : (message : Message) (held : OpenMessage) → message ≡ Open held
+  pub message_open : (message : Option OpenMessage) (held : OpenMessage)
+      → message ≡ Some held
       → Fits old (order_text held.order ++ progress_text held.progress) new
       → Fits old (message_text message) new
   unfolding message_text
   message_open message held is fits = rw is fits
 
-  pub progress_back : (progress : Progress) (answer : Exchange) → progress ≡ Back answer
+  pub progress_back : (progress : Option Exchange) (answer : Exchange) → progress ≡ Some answer
       → Fits old
       (part "stage " (stage_text answer.stage)
       ++ part "taken " (decimal answer.taken)

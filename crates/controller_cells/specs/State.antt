@@ -1,6 +1,6 @@
 -- The lines of the controller's state, an item a line; the items of an open message stand on one
 -- line. Definitions only. Assumes nothing.
-use Rattle.std.specs.Prelude.{cond, List, ◌++◌, ℕ}
+use Rattle.std.specs.Prelude.{cond, List, ◌++◌, ℕ, Option, Some, None}
 use Rattle.formats.specs.declared.row.Row.{Row}
 use Rattle.formats.specs.declared.row.Row.TheVariants.{
   ToTerminal,
@@ -18,12 +18,9 @@ use Rattle.exchange.specs.declared.state.Stage.TheVariants.{
   AwaitingLast,
   Ended,
 }
-use Rattle.controller.specs.declared.state.Result.{Result}
-use Rattle.controller.specs.declared.state.Result.TheVariants.{Absent, Came}
-use Rattle.controller.specs.declared.state.Progress.{Progress}
-use Rattle.controller.specs.declared.state.Progress.TheVariants.{Given, Back}
-use Rattle.controller.specs.declared.state.Message.{Message}
-use Rattle.controller.specs.declared.state.Message.TheVariants.{Idle, Open}
+use Rattle.controller.specs.declared.state.Came.{Came}
+use Rattle.exchange.specs.declared.state.Exchange.{Exchange}
+use Rattle.controller.specs.declared.state.OpenMessage.{OpenMessage}
 use Rattle.controller.specs.declared.state.Controller.{Controller}
 use Rattle.lines.specs.Digits.{hex_word, decimal}
 use Rattle.shown.specs.Text.{bytes}
@@ -31,9 +28,9 @@ use Rattle.shown.specs.Item.{part, line, mark_text}
 use Rattle.desk.specs.declared.run.Run.{Run as HeldRun}
 
 -- the fault code and the mark of the last result, where there is one
-unfoldable pub result_text : Result → List ℕ
-result_text Absent = bytes "result none\n"
-result_text (Came code mark) = part "result " (decimal code) ++ line "" (mark_text mark)
+unfoldable pub result_text : Option Came → List ℕ
+result_text None = bytes "result none\n"
+result_text (Some came) = part "result " (decimal came.code) ++ line "" (mark_text came.mark)
 
 -- ---- the open message
 
@@ -62,17 +59,17 @@ stage_text AwaitingLast = bytes "last"
 stage_text Ended = bytes "ended"
 
 -- how far the answer has come: what is due, the words of the reply, and the mark
-unfoldable pub progress_text : Progress → List ℕ
-progress_text Given = bytes "stage given taken 0 mark 0\n"
-progress_text (Back answer) =
+unfoldable pub progress_text : Option Exchange → List ℕ
+progress_text None = bytes "stage given taken 0 mark 0\n"
+progress_text (Some answer) =
     part "stage " (stage_text answer.stage)
     ++ part "taken " (decimal answer.taken)
     ++ line "mark " (mark_text answer.mark)
 
 -- all its items, where a message is open
-unfoldable pub message_text : Message → List ℕ
-message_text Idle = bytes "open none\n"
-message_text (Open message) = order_text message.order ++ progress_text message.progress
+unfoldable pub message_text : Option OpenMessage → List ℕ
+message_text None = bytes "open none\n"
+message_text (Some message) = order_text message.order ++ progress_text message.progress
 
 -- ---- the controller
 

@@ -13,22 +13,22 @@ ghost use Rattle.controller_cells.specs.State.{
   state_text,
 };
 
-use controller::state::{Controller, Message, Progress, Result};
+use controller::state::{Came, Controller, OpenMessage};
 use desk::Run;
 use exchange::order::Order;
-use exchange::state::Stage;
+use exchange::state::{Exchange, Stage};
 use lines::Page;
 use shown::item::put_item;
 use shown::text::{Hex, put_text};
 
-fn put_result(page: &mut Page, res: Result)
+fn put_result(page: &mut Page, res: Option<Came>)
     ensures { Fits page.old (result_text res) page.new }
 {
     match res {
-        Result::Absent => put_text(page, b"result none\n"),
-        Result::Came { code, mark } => {
-            put_item(page, b"result ", &code, b' ');
-            put_item(page, b"", &mark, b'\n');
+        None => put_text(page, b"result none\n"),
+        Some(came) => {
+            put_item(page, b"result ", &came.code, b' ');
+            put_item(page, b"", &came.mark, b'\n');
         }
     }
 }
@@ -58,12 +58,12 @@ fn put_stage(page: &mut Page, stage: Stage)
 }
 
 // How far the answer has come.
-fn put_progress(page: &mut Page, progress: Progress)
+fn put_progress(page: &mut Page, progress: Option<Exchange>)
     ensures { Fits page.old (progress_text progress) page.new }
 {
     match progress {
-        Progress::Given => put_text(page, b"stage given taken 0 mark 0\n"),
-        Progress::Back(exchange) => {
+        None => put_text(page, b"stage given taken 0 mark 0\n"),
+        Some(exchange) => {
             put_stage(page, exchange.stage);
             put_item(page, b"taken ", &exchange.taken, b' ');
             put_item(page, b"mark ", &exchange.mark, b'\n');
@@ -71,12 +71,12 @@ fn put_progress(page: &mut Page, progress: Progress)
     }
 }
 
-fn put_message(page: &mut Page, message: Message)
+fn put_message(page: &mut Page, message: Option<OpenMessage>)
     ensures { Fits page.old (message_text message) page.new }
 {
     match message {
-        Message::Idle => put_text(page, b"open none\n"),
-        Message::Open(open) => {
+        None => put_text(page, b"open none\n"),
+        Some(open) => {
             put_order(page, open.order);
             put_progress(page, open.progress);
         }

@@ -2,7 +2,6 @@
 --     ReadingLaws    how the code comes to each reading
 --     RunLaws        small steps, by the cases of what they are given
 --     TakenLaws      what a reading tells of the bytes
---     DeedLaws       what each kind of field does
 --     LineLaws       the lines, as the code writes them
 --     TurnLaws       one field of a window
 --     RowTurns       a row of data words, taken at once, is as many turns
@@ -11,7 +10,6 @@
 pub mod ReadingLaws
 pub mod RunLaws
 pub mod TakenLaws
-pub mod DeedLaws
 pub mod LineLaws
 pub mod TurnLaws
 pub mod RowTurns

@@ -1,4 +1,5 @@
 -- The lines of a run, as the code writes them. Assumes nothing.
+use Rattle.std.proofs.Common.{Option, Some, None}
 use Rattle.std.proofs.Common.{
   ◌≡◌,
   ℕ,
@@ -28,10 +29,8 @@ use Rattle.lines.specs.Written.{line_room, most_given, given_written}
 use Rattle.lines.specs.declared.Page.{Page}
 use Rattle.lines.proofs.LineLaws.{nothing_left}
 use Rattle.lines.proofs.WrittenLaws.{few_given}
-use Rattle.controller.specs.declared.state.Result.{Result}
-use Rattle.controller.specs.declared.state.Result.TheVariants.{Absent, Came}
+use Rattle.controller.specs.declared.state.Came.{Came}
 use Rattle.controller.specs.declared.start.Given.{Given}
-use Rattle.controller.specs.declared.start.Given.TheVariants.{Nothing, Words}
 use Rattle.controller.specs.State.{desk_blocks}
 use Rattle.controller.specs.Given as controller
 use Rattle.desk.specs.declared.deed.Answer.{Answer}
@@ -59,42 +58,43 @@ few_given_words ram block count = go (eqb number 0) refl where
       )
   go false is = omega arith
 
-module _ (old : Page) (ram : List ℕ) (given : Given) where
-  pub nothing_given : given ≡ Nothing → Leaves old old (line_on old (given_text ram given))
+module _ (old : Page) (ram : List ℕ) (given : Option Given) where
+  pub nothing_given : given ≡ None → Leaves old old (line_on old (given_text ram given))
   nothing_given is = rw is (nothing_left line_room old)
 
-  pub words_given_lem : (new : Page) (block : Block) (count : ℕ) (words : List ℕ)
-      → given ≡ Words block count → words ≡ controller.given_part ram block count
+  pub words_given_lem : (new : Page) (told : Given) (words : List ℕ)
+      → given ≡ Some told → words ≡ controller.given_part ram told.block told.count
       → Leaves old new (given_written old.out.now old.at words)
       → Leaves old new (line_on old (given_text ram given))
-  words_given_lem new block count words is is_words printed =
-      let part : List ℕ = controller.given_part ram block count in
+  words_given_lem new told words is is_words printed =
+      let part : List ℕ = controller.given_part ram told.block told.count in
       let line : Leaves old new (given_written old.out.now old.at part) =
       rw is_words at printed in
-      rw is (rw (few_given old.out.now old.at part (few_given_words ram block count)) at line)
+      rw is (rw (few_given old.out.now old.at part (few_given_words ram told.block told.count))
+      at line)
 
 pub ruleset given_lines = (nothing_given, words_given_lem)
 
 -- ---- the result, and either
 
 module _ (old : Page) where
-  pub no_result : (result : Result) → result ≡ Absent
+  pub no_result : (result : Option Came) → result ≡ None
       → Leaves old old (line_on old (result_text result))
   no_result result is = rw is (nothing_left line_room old)
 
   module _ (new : Page) where
-    pub result_came : (result : Result) (code : ℕ) (mark : Bool) → result ≡ Came code mark
-        → Leaves old new (line_on old (result_line code mark))
+    pub result_came : (result : Option Came) (came : Came) → result ≡ Some came
+        → Leaves old new (line_on old (result_line came.code came.mark))
         → Leaves old new (line_on old (result_text result))
-    result_came result code mark is printed = rw is printed
+    result_came result came is printed = rw is printed
 
     module _ (ram : List ℕ) (answer : Answer) where
-      pub gave_line : (given : Given) → answer ≡ Gave given
+      pub gave_line : (given : Option Given) → answer ≡ Gave given
           → Leaves old new (line_on old (given_text ram given))
           → Leaves old new (line_on old (answer_line ram answer))
       gave_line given is printed = rw is printed
 
-      pub ended_line : (result : Result) → answer ≡ Ended result
+      pub ended_line : (result : Option Came) → answer ≡ Ended result
           → Leaves old new (line_on old (result_text result))
           → Leaves old new (line_on old (answer_line ram answer))
       ended_line result is printed = rw is printed

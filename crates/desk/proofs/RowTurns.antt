@@ -1,14 +1,12 @@
 -- What `take_row` leaves: the turns that are left lead where all of them led (`row_taken_lem`), by
 -- the law of every row: a data word that is wanted is a field that prints nothing, and the
 -- controller stores a row as so many words. Assumes nothing.
+use Rattle.std.proofs.Common.{Option, Some}
 use Rattle.std.proofs.Common.{
   ◌≡◌,
   ℕ,
   ◌+◌,
   ◌-◌,
-  ◌*◌,
-  ◌%◌,
-  ◌^◌,
   ◌<◌,
   ◌≤◌,
   Bool,
@@ -37,9 +35,7 @@ use Rattle.recording.specs.Bytes.{bytes_left, time_at}
 use Rattle.recording.specs.AsCoded.Found.{word_found}
 use Rattle.recording.specs.Value.{valued_at}
 use Rattle.recording.proofs.FoundLaws.{found_is_read, found_whole, found_tag}
-use Rattle.controller.specs.declared.state.Controller.{Controller}
 use Rattle.controller.specs.declared.row.Wanted.{Wanted}
-use Rattle.controller.specs.declared.row.Wanted.TheVariants.{Words}
 use Rattle.controller.specs.State.{Desk, desk}
 use Rattle.controller.specs.Heard.{words_step}
 use Rattle.controller.specs.Row.{words_wanted, with_taken}
@@ -112,97 +108,75 @@ desk_hears seen after_setup =
       wants_on = λ line more old heard wants is. still_wants line more old heard wants is;
     }
 
--- ---- the run behind a row, as the code makes it
-
-pub row_after : (old : HeldPassed) (before : ℕ) (taken : Taken) (controller : Controller)
-    (fields offset : ℕ)
-    → controller ≡ with_taken (before + taken.words) old.run.controller
-    → fields ≡ (old.run.fields + taken.words) % 2 ^ 64
-    → offset ≡ (old.run.offset + 10 * taken.words) % 2 ^ 64
-    → record {
-      run =
-          record {
-            controller = controller;
-            seen = old.run.seen;
-            fields = fields;
-            offset = offset;
-          };
-      at = taken.at;
-      put = old.put;
-      stop = old.stop;
-    }
-    ≡ passed_after old before taken
-unfolding passed_after
-row_after old before taken controller fields offset is_controller is_fields is_offset =
-    rw (is_controller, is_fields, is_offset)
-
 -- ---- a row is as many turns
 
-module _ (old : HeldPassed) (window ram ram' : List ℕ) (room most : ℕ) (wanted : Wanted)
-    (block : Block) (cell end : ℕ) (line : Bool) (before : ℕ) (taken : Taken)
+module _ (old : HeldPassed) (window ram ram' : List ℕ) (room most : ℕ) (wanted : Option Wanted)
+    (words : Wanted) (taken : Taken)
     (is_wanted : wanted ≡ words_wanted old.run.controller)
-    (is : wanted ≡ Words block cell end line before)
+    (is : wanted ≡ Some words)
     (is_taken_lem : row_left taken ram'
-    ≡ row_taken window old.at line old.run.seen.setup room most
-    (record { block = block; cell = cell; end = end }) ram) where
+    ≡ row_taken window old.at words.line old.run.seen.setup room most
+    (record { block = words.block; cell = words.cell; end = words.end }) ram) where
   abbrev row : Row
-  row = record { block = block; cell = cell; end = end }
+  row = record { block = words.block; cell = words.cell; end = words.end }
 
   abbrev found : List Word
-  found = words_taken window old.at line row
+  found = words_taken window old.at words.line row
 
-  told : WantedTold old.run.controller block cell end line before
-  told = wanted_tells old.run.controller block cell end line before (sym is ∙ is_wanted)
+  told : WantedTold old.run.controller words
+  told = wanted_tells old.run.controller words (sym is ∙ is_wanted)
 
   -- where no word was found nothing has changed
   pub none_taken : taken.words ≡ 0 → RowTaken window room most old ram most old ram'
   none_taken none =
       let same : ram' ≡ ram =
-      rows.none_taken window line old.run.seen.setup room most old.at row ram taken ram'
+      rows.none_taken window words.line old.run.seen.setup room most old.at row ram taken ram'
       is_taken_lem none in
       rw same record { same_stop = refl; same_put = refl; turns_taken = nothing_taken }
 
   module _ (some : taken.words ≢ 0) where
-    tells : rows.SomeTaken window line old.run.seen.setup room most old.at row ram taken
+    tells : rows.SomeTaken window words.line old.run.seen.setup room most old.at row ram taken
         ram'
     tells =
-        rows.some_taken window line old.run.seen.setup room most old.at row ram taken ram'
+        rows.some_taken window words.line old.run.seen.setup room most old.at row ram taken ram'
         is_taken_lem some
 
     as_many : taken.words ≡ length found
     as_many = ap (λ (any : RowLeft). any.taken.words) tells.is_row
 
     -- as many can be counted
-    pub words_fit : before + taken.words ≤ 65535
+    pub words_fit : words.taken + taken.words ≤ 65535
     words_fit =
-        told_fits old.run.controller block cell end line before told ram taken.words
-        (omega (arith, as_many, found_few window line row old.at))
+        told_fits old.run.controller words told ram taken.words
+        (omega (arith, as_many, found_few window words.line row old.at))
 
     -- the controller has stored the words that are found
-    as_row : desk (with_taken (before + taken.words) old.run.controller) ram'
+    as_row : desk (with_taken (words.taken + taken.words) old.run.controller) ram'
         ≡ words_step found (desk old.run.controller ram)
     as_row =
-        ap (λ (any : RowLeft). desk (with_taken (before + any.taken.words) old.run.controller)
+        ap (λ (any : RowLeft). desk (with_taken (words.taken + any.taken.words) old.run.controller)
         any.ram) tells.is_row
-        ∙ ap (λ (any : Block). desk (with_taken (before + length found) old.run.controller)
-        (with_cells ram any cell (values_of found))) told.same_block
-        ∙ wanted_row_is_words old.run.controller block cell end line before told ram found
-        (found_are_data window line (end - cell) old.at) (found_few window line row old.at)
+        ∙ ap (λ (any : Block). desk (with_taken (words.taken + length found) old.run.controller)
+        (with_cells ram any words.cell (values_of found))) told.same_block
+        ∙ wanted_row_is_words old.run.controller words told ram found
+        (found_are_data window words.line (words.end - words.cell) old.at)
+        (found_few window words.line row old.at)
 
-    behind_row : RowTaken window room most old ram taken.left (passed_after old before taken) ram'
+    behind_row : RowTaken window room most old ram taken.left
+        (passed_after old words.taken taken) ram'
     unfolding passed_after
     behind_row =
         record {
           same_stop = refl;
           same_put = refl;
           turns_taken =
-              row_is_turns (desk_hears old.run.seen tells.able.after_setup) window line row
+              row_is_turns (desk_hears old.run.seen tells.able.after_setup) window words.line row
               old.run.seen.setup room most old.at ram ram' taken is_taken_lem some
               (desk old.run.controller ram) _ old.run.fields old.run.offset
-              (told_wants old.run.controller block cell end line before told ram) as_row;
+              (told_wants old.run.controller words told ram) as_row;
         }
 
-    pub row_taken_lem : (new : HeldPassed) → new ≡ passed_after old before taken
+    pub row_taken_lem : (new : HeldPassed) → new ≡ passed_after old words.taken taken
         → RowTaken window room most old ram taken.left new ram'
     row_taken_lem new is_new =
         subst (λ (any : HeldPassed). RowTaken window room most old ram taken.left any ram')

@@ -8,23 +8,31 @@ use Rattle.std.proofs.Common.{
   ◌^◌,
   ◌<◌,
   ◌≤◌,
+  ◌≢◌,
   Bool,
+  Option,
+  Some,
+  None,
   eqb,
   List,
+  Result,
+  Ok,
+  Err,
   length,
   sym,
   refl,
   ap,
   ◌∙◌,
-  eq-eqb,
   ne_eqb,
 }
 use Rattle.rules.proofs.Choices.{by_test}
+use Rattle.refusals.specs.declared.Refusal.{Refusal}
+use Rattle.refusals.specs.Number.{number_of, refused}
+use Rattle.refusals.proofs.NumberLaws.{some_refused}
 use Rattle.recording.specs.declared.seen.Seen.{Seen}
 use Rattle.recording.specs.Value.{Valued, valued_at}
 use Rattle.recording.specs.Value as shared
 use Rattle.formats.specs.declared.code.Coded.{Coded}
-use Rattle.formats.specs.declared.code.Coded.TheVariants.{Format, Lacking}
 use Rattle.formats.specs.Code.{coded_by}
 use Rattle.lines.specs.Written.{put, line_room, line_written}
 use Rattle.pieces.specs.declared.stop.Stop.{Stop}
@@ -32,27 +40,27 @@ use Rattle.pieces.specs.declared.stop.Stop.TheVariants.{Going, Full}
 use Rattle.pieces.specs.Course.{may_go_on}
 use Rattle.pieces.specs.AsCoded.Window as pieces
 use Rattle.pieces.proofs.TurnLaws as general
+use Rattle.controller.specs.declared.state.Controller.{Controller}
 use Rattle.controller.specs.Control.{code_in}
 use Rattle.controller.specs.State.{Desk, desk}
-use Rattle.controller.specs.Start.{Started, may_start, starting, starting_by, start_step}
+use Rattle.controller.specs.Start.{Started, may_start, starting_by, start_step}
 use Rattle.desk.specs.declared.field.Field.{Field}
 use Rattle.desk.specs.declared.field.Field.TheVariants.{Setup, Start, Shared}
 use Rattle.desk.specs.declared.reading.Reading.{Reading}
 use Rattle.desk.specs.declared.reading.Reading.TheVariants.{Taken, End, Refused}
-use Rattle.desk.specs.declared.deed.Done.{Done as HeldDone}
+use Rattle.desk.specs.declared.deed.Answer.{Answer}
 use Rattle.desk.specs.declared.window.Passed.{Passed as HeldPassed}
 use Rattle.desk.specs.Reading.{read_at, seen_after}
 use Rattle.desk.specs.Deed.{Done, done, shared_deed, deed_of, answer_line}
 use Rattle.desk.specs.Run.{Run, taking, took_by, met_by, desk_course}
-use Rattle.desk.specs.AsCoded.Held.{run_of, passed_of}
+use Rattle.desk.specs.AsCoded.Held.{run_of, passed_of, answer_in}
 
 -- ---- what is refused changes nothing
 
-code_refused : (coded : Coded) (old : Desk) → ((starting_by coded old).refusal ≡ 0 → ⊥)
+code_refused : (coded : Option Coded) (old : Desk) → ((starting_by coded old).refusal ≡ 0 → ⊥)
     → (starting_by coded old).desk ≡ old
-unfolding starting_by starting
-code_refused (Format row broadcast) old other = absurd (other refl)
-code_refused Lacking old other = refl
+code_refused (Some coded) old other = absurd (other refl)
+code_refused None old other = refl
 
 start_refused : (old : Desk) → ((start_step old).refusal ≡ 0 → ⊥) → (start_step old).desk ≡ old
 unfolding start_step
@@ -82,11 +90,10 @@ refused_changes_nothing bytes (Shared field) old other =
 
 -- ---- a refusal is 14: none waits for bytes
 
-code_by_14 : (coded : Coded) (old : Desk)
+code_by_14 : (coded : Option Coded) (old : Desk)
     → may_go_on (starting_by coded old).refusal ≡ eqb (starting_by coded old).refusal 0
-unfolding starting_by starting
-code_by_14 (Format row broadcast) old = refl
-code_by_14 Lacking old = refl
+code_by_14 (Some coded) old = refl
+code_by_14 None old = refl
 
 start_by_14 : (old : Desk) → may_go_on (start_step old).refusal ≡ eqb (start_step old).refusal 0
 unfolding start_step
@@ -107,8 +114,8 @@ refused_by_14 bytes (Shared field) old =
 -- ---- a field that was read
 
 module _ (ran : HeldPassed) (ram out window : List ℕ) (last : Bool) (told : Field) (next : ℕ)
-    (left : HeldDone) (ram' : List ℕ)
-    (is_left : done left.refusal left.answer (desk left.controller ram')
+    (outcome : Result Answer Refusal) (left : Controller) (ram' : List ℕ)
+    (is_left : done (refused outcome) (answer_in outcome) (desk left ram')
     ≡ deed_of window told (desk ran.run.controller ram)) where
   abbrev old : pieces.Passed Run
   old = passed_of ran ram out
@@ -120,16 +127,16 @@ module _ (ran : HeldPassed) (ram out window : List ℕ) (last : Bool) (told : Fi
   passes =
       pieces.passing desk_course (took_by told ran.at next deed (run_of ran.run ram)) last old
 
-  pub field_taken : (out' : List ℕ) (put' fields offset : ℕ) (seen : Seen)
-      → left.refusal ≡ 0
-      → put put' out' ≡ line_written out ran.put (answer_line ram' left.answer)
+  pub field_taken : (answer : Answer) (out' : List ℕ) (put' fields offset : ℕ) (seen : Seen)
+      → outcome ≡ Ok answer
+      → put put' out' ≡ line_written out ran.put (answer_line ram' answer)
       → seen ≡ seen_after told ran.run.seen
       → fields ≡ (ran.run.fields + 1) % 2 ^ 64
       → offset ≡ (ran.run.offset + (next - ran.at)) % 2 ^ 64
       → passed_of (record {
         run =
             record {
-              controller = left.controller;
+              controller = left;
               seen = seen;
               fields = fields;
               offset = offset;
@@ -140,35 +147,39 @@ module _ (ran : HeldPassed) (ram out window : List ℕ) (last : Bool) (told : Fi
       }) ram' out'
       ≡ passes
   unfolding pieces.passing took_by taking
-  field_taken out' put' fields offset seen none is_put is_seen is_fields is_offset =
+  field_taken answer out' put' fields offset seen is is_put is_seen is_fields is_offset =
       rw (
         ← is_left,
-        eq-eqb left.refusal 0 none,
+        is,
         ← is_put,
         is_seen,
         is_fields,
         is_offset,
       )
 
-  pub field_refused : (end : HeldPassed) (put' : ℕ) (stop : Stop) (out' : List ℕ)
-      → (left.refusal ≡ 0 → ⊥)
+  pub field_refused : (refusal : Refusal) (number : ℕ) (end : HeldPassed) (put' : ℕ) (stop : Stop)
+      (out' : List ℕ)
+      → outcome ≡ Err refusal → number ≡ number_of refusal
       → pieces.stopped (put put' out') stop
-      ≡ pieces.stopped_at left.refusal last ran.run.fields ran.run.offset out ran.put
+      ≡ pieces.stopped_at number last ran.run.fields ran.run.offset out ran.put
       → end ≡ record { run = ran.run; at = ran.at; put = put'; stop = stop }
       → passed_of end ram' out' ≡ passes
   unfolding pieces.passing took_by desk_course
-  field_refused end put' stop out' other is_stopped is_end =
-      let number : left.refusal ≡ deed.refusal = ap (λ (any : Done). any.refusal) is_left in
+  field_refused refusal number end put' stop out' is is_number is_stopped is_end =
+      let told_so : number ≡ deed.refusal =
+      is_number ∙ sym (ap (λ (any : Result Answer Refusal). refused any) is)
+      ∙ ap (λ (any : Done). any.refusal) is_left in
+      let other : number ≢ 0 = λ none. some_refused (Some refusal) refl (sym is_number ∙ none) in
       let kept : deed.desk ≡ desk ran.run.controller ram =
       refused_changes_nothing window told (desk ran.run.controller ram)
-      (λ none. other (number ∙ none)) in
+      (λ none. other (told_so ∙ none)) in
       let same : ram' ≡ ram =
       ap (λ (any : Done). any.desk.ram) is_left ∙ ap (λ (any : Desk). any.ram) kept in
       rw (
         is_end,
         same,
-        ← number,
-        ne_eqb left.refusal 0 other,
+        ← told_so,
+        ne_eqb number 0 other,
         ← is_stopped,
       )
 

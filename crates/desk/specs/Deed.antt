@@ -1,14 +1,12 @@
 -- What a field does. Definitions only. Assumes nothing.
-use Rattle.std.specs.Prelude.{ℕ, List, [], ◌==◌}
+use Rattle.std.specs.Prelude.{ℕ, List, [], ◌==◌, Option, Some, None}
 use Rattle.std.proofs.lemmas.List.Edits.{sets}
 use Rattle.bus.specs.Word.{word_of}
 use Rattle.recording.specs.Value.{Valued, valued_at}
 use Rattle.recording.specs.Value as shared
 use Rattle.lines.specs.Lines.{given_line, result_line}
-use Rattle.controller.specs.declared.state.Result.{Result}
-use Rattle.controller.specs.declared.state.Result.TheVariants.{Absent, Came}
+use Rattle.controller.specs.declared.state.Came.{Came}
 use Rattle.controller.specs.declared.start.Given.{Given}
-use Rattle.controller.specs.declared.start.Given.TheVariants.{Nothing, Words}
 use Rattle.controller.specs.State.{Desk, desk, at_setup}
 use Rattle.controller.specs.Start.{Started, start_step}
 use Rattle.controller.specs.Heard.{Heard, word_step, silence_step}
@@ -29,7 +27,7 @@ done refusal answer new = record { refusal = refusal; answer = answer; desk = ne
 
 -- nothing comes of it
 abbrev pub quietly : Desk → Done
-quietly new = done 0 (Ended Absent) new
+quietly new = done 0 (Ended None) new
 
 -- ---- a start, a word and a silence, as the controller has them
 
@@ -58,13 +56,13 @@ deed_of bytes (Shared field) old = shared_deed (valued_at bytes field) old
 
 -- ---- the line that is printed: of the words given, or of the result
 
-abbrev pub given_text : List ℕ → Given → List ℕ
-given_text ram Nothing = []
-given_text ram (Words block count) = given_line (given_part ram block count)
+abbrev pub given_text : List ℕ → Option Given → List ℕ
+given_text ram None = []
+given_text ram (Some given) = given_line (given_part ram given.block given.count)
 
-abbrev pub result_text : Result → List ℕ
-result_text Absent = []
-result_text (Came code mark) = result_line code mark
+abbrev pub result_text : Option Came → List ℕ
+result_text None = []
+result_text (Some came) = result_line came.code came.mark
 
 abbrev pub answer_line : List ℕ → Answer → List ℕ
 answer_line ram (Gave given) = given_text ram given

@@ -21,12 +21,8 @@ impl Field {
         ensures { result ≡ seen_after self seen }
     {
         match self {
-            Field::Setup {
-                control: _,
-                count: _,
-            } => Seen { setup: true },
-            Field::Start => seen,
-            Field::Shared(_) => seen,
+            Field::Setup { .. } => Seen { setup: true },
+            Field::Start | Field::Shared(_) => seen,
         }
     }
 }

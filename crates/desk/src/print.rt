@@ -7,24 +7,24 @@ ghost use Rattle.desk.specs.Deed.{given_text, result_text, answer_line};
 use crate::deed::Answer;
 use controller::given;
 use controller::start::Given;
-use controller::state::Result;
+use controller::state::Came;
 use lines::Page;
 
-fn put_given(page: &mut Page, ram: &[u16], words: Given)
+fn put_given(page: &mut Page, ram: &[u16], words: Option<Given>)
     ensures { Leaves page.old page.new (line_on page.old (given_text ram.now words)) }
 {
     match words {
-        Given::Nothing => {}
-        Given::Words { block, count } => page.given_line(given::part(ram, block, count)),
+        None => {}
+        Some(words) => page.given_line(given::part(ram, words.block, words.count)),
     }
 }
 
-fn put_result(page: &mut Page, res: Result)
+fn put_result(page: &mut Page, res: Option<Came>)
     ensures { Leaves page.old page.new (line_on page.old (result_text res)) }
 {
     match res {
-        Result::Absent => {}
-        Result::Came { code, mark } => page.result_line(code, mark),
+        None => {}
+        Some(came) => page.result_line(came.code, came.mark),
     }
 }
 

@@ -5,9 +5,7 @@ ghost use Rattle.desk.specs.AsCoded.Row.{passed_after, RowTaken};
 
 use crate::run::Run;
 use crate::window::Passed;
-use controller::row::Wanted;
 use rows::{Row, Taken};
-use std::num;
 
 // What a row of data words leaves of a run, and how many turns are left then.
 #[derive(Clone, Copy)]
@@ -17,25 +15,24 @@ pub struct Rowed {
 }
 
 // The run behind a row of words for its open message, which had so many before.
+#[tactic(auto, unfolding(crate::specs::AsCoded::Row::passed_after))]
 fn after_row(passed: Passed, before: u16, taken: Taken) -> Passed
     requires { before + taken.words ≤ 65535 }
     ensures { result ≡ passed_after passed before taken }
 {
     let run = passed.run;
-    let controller = run.controller;
-    let stop = passed.stop;
-    let seen = run.seen;
-    let words = taken.words as u64;
+    let words = u64::from(taken.words);
+    let mut controller = run.controller;
+    controller.set_taken(before + taken.words);
     Passed {
         run: Run {
-            controller: controller.with_taken(before + taken.words),
-            seen: seen,
-            fields: num::wrapping_add_u64(run.fields, words),
-            offset: num::wrapping_add_u64(run.offset, 10 * words),
+            controller,
+            fields: run.fields.wrapping_add(words),
+            offset: run.offset.wrapping_add(10 * words),
+            ..run
         },
         at: taken.at,
-        put: passed.put,
-        stop: stop,
+        ..passed
     }
 }
 
@@ -51,36 +48,28 @@ pub(crate) fn take_row(
         result.left result.passed ram.new }
 {
     let run = passed.run;
-    let controller = run.controller;
-    let wanted = controller.words_wanted();
-    let Wanted::Words {
-        block,
-        cell,
-        end,
-        line,
-        taken,
-    } = wanted
-    else {
-        return Rowed {
-            passed: passed,
-            left: most,
-        };
+    let Some(wanted) = run.controller.words_wanted() else {
+        return Rowed { passed, left: most };
     };
     let row = Row {
-        block: block,
-        cell: cell,
-        end: end,
+        block: wanted.block,
+        cell: wanted.cell,
+        end: wanted.end,
     };
-    let setup = run.seen.setup;
-    let next = row.take(ram, window, passed.at, line, setup, room, most);
-    if next.words == 0 {
-        return Rowed {
-            passed: passed,
-            left: most,
-        };
+    let taken = row.take(
+        ram,
+        window,
+        passed.at,
+        wanted.line,
+        run.seen.setup,
+        room,
+        most,
+    );
+    if taken.words == 0 {
+        return Rowed { passed, left: most };
     }
     Rowed {
-        passed: after_row(passed, taken, next),
-        left: next.left,
+        passed: after_row(passed, wanted.taken, taken),
+        left: taken.left,
     }
 }

@@ -19,6 +19,7 @@ pub struct Run {
 
 impl Run {
     // Before the first field: the controller may start nothing.
+    #[tactic(auto, unfolding(crate::specs::AsCoded::Held::held_at_start))]
     pub fn at_start() -> Run
         ensures { result ≡ held_at_start }
     {

@@ -57,22 +57,22 @@ fn take_field(
         (passed_of passed ram.old out.old) }
 {
     let run = passed.run;
-    let controller = run.controller;
-    let deed = deed::do_field(controller, ram, window, field);
-    if deed.refusal != 0 {
-        let end = pieces::stop_at(out, passed.put, deed.refusal, last, run.fields, run.offset);
-        let stop = end.stop;
-        return passed.with_stop(end.put, stop);
-    }
-    let answer = deed.answer;
-    let new = deed.controller;
+    let mut controller = run.controller;
+    let done = deed::do_field(&mut controller, ram, window, field);
+    let answer = match done {
+        Ok(answer) => answer,
+        Err(refusal) => {
+            let number = u8::from(refusal);
+            let end = pieces::stop_at(out, passed.put, number, last, run.fields, run.offset);
+            return passed.with_stop(end.put, end.stop);
+        }
+    };
     let put = print::put_answer(out, passed.put, ram, answer);
     let size = (next - passed.at) as u64;
-    let before = run.seen;
     Passed {
         run: Run {
-            controller: new,
-            seen: field.seen_after(before),
+            controller,
+            seen: field.seen_after(run.seen),
             fields: num::wrapping_add_u64(run.fields, 1),
             offset: num::wrapping_add_u64(run.offset, size),
         },

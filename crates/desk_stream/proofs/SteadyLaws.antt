@@ -7,6 +7,7 @@ use Prim.Native.Nat.{ℕ, ◌+◌, ◌-◌, ◌≤◌, ◌<◌}
 use native.Mathlib.Omega.{arith}
 use lib.Dec.{eqb}
 use lib.ListN.{length}
+use Rattle.std.proofs.Common.{Some, None}
 use Rattle.rules.proofs.Clash.{clash}
 use Rattle.recording.proofs.ValueLaws.{more_bytes_same_values}
 use Rattle.lines.specs.Written.{line_room}
@@ -14,8 +15,6 @@ use Rattle.lines.proofs.Lengths.{length_given_line, length_result_line}
 use Rattle.pieces.specs.Course.{taken, at_end, refused, may_go_on, waits}
 use Rattle.pieces.specs.Steady.{Steady}
 use Rattle.pieces.proofs.CourseLaws.{same_next, same_line}
-use Rattle.controller.specs.declared.state.Result.TheVariants.{Absent, Came}
-use Rattle.controller.specs.declared.start.Given.TheVariants.{Nothing, Words}
 use Rattle.controller.specs.Given.{given_part}
 use Rattle.desk.specs.declared.field.Field.{Field}
 use Rattle.desk.specs.declared.field.Field.TheVariants.{Setup, Start, Shared}
@@ -147,11 +146,12 @@ met_waits (Refused number) old bytes at (a_refusal named few) wait = few wait
 -- ---- lines
 
 answer_fits : (ram : List ℕ) (answer : Answer) → length (answer_line ram answer) ≤ line_room
-answer_fits ram (Gave Nothing) = omega arith
-answer_fits ram (Gave (Words block count)) =
-    length_given_line (given_part ram block count) (few_given_words ram block count)
-answer_fits ram (Ended Absent) = omega arith
-answer_fits ram (Ended (Came code mark)) = length_result_line code mark
+answer_fits ram (Gave None) = omega arith
+answer_fits ram (Gave (Some given)) =
+    length_given_line (given_part ram given.block given.count)
+    (few_given_words ram given.block given.count)
+answer_fits ram (Ended None) = omega arith
+answer_fits ram (Ended (Some came)) = length_result_line came.code came.mark
 
 -- ---- all that is asked
 

@@ -5,9 +5,7 @@ ghost use Rattle.exchange.specs.Judge.{
   is_marked,
   status_heard,
   data_heard,
-  word_heard,
   on_word,
-  silence_heard,
   on_silence,
 };
 
@@ -16,6 +14,7 @@ use crate::state::{Exchange, Stage};
 use bus::command;
 use bus::word::Word;
 
+// A fault code is a number, since a state of the controller may hold any.
 #[derive(Clone, Copy)]
 pub enum WordAct {
     // the message ends with a fault code
@@ -54,112 +53,88 @@ impl Exchange {
     }
 
     // A status of this station is due, and then this stage begins.
+    #[tactic(auto, unfolding(crate::specs::Judge::status_heard))]
     fn status_heard(self, cell: u16, station: u16, next: Stage, word: Word) -> WordAct
         ensures { result ≡ status_heard cell station next self word }
     {
-        let sync = word.sync;
-        let address = command::address(word.value);
-        let mark = self.mark | is_marked(word.value);
-        if !sync {
+        if !word.sync {
             return WordAct::Fault(6);
         }
-        if address != station {
+        if command::address(word.value) != station {
             return WordAct::Fault(5);
         }
         WordAct::Take(
             cell,
             Exchange {
                 stage: next,
-                taken: self.taken,
-                mark: mark,
+                mark: self.mark || is_marked(word.value),
+                ..self
             },
         )
     }
 
     // Data words are due, from this cell on, or all are in.
+    #[tactic(auto, unfolding(crate::specs::Judge::data_heard))]
     fn data_heard(self, complete: bool, first: u16, word: Word) -> WordAct
         requires { complete ≡ false → first + self.taken < 65535 }
         ensures { result ≡ data_heard complete first self word }
     {
-        let joined = word.joined;
-        let sync = word.sync;
-        if !joined {
+        if !word.joined {
             return WordAct::Fault(3);
         }
         if complete {
             return WordAct::Fault(4);
         }
-        if sync {
+        if word.sync {
             return WordAct::Fault(6);
         }
-        let stage = self.stage;
         WordAct::Take(
             first + self.taken,
             Exchange {
-                stage: stage,
                 taken: self.taken + 1,
-                mark: self.mark,
+                ..self
             },
         )
     }
 
-    fn word_heard(self, stage: Stage, order: Order, word: Word) -> WordAct
-        ensures { result ≡ word_heard stage order self word }
-    {
-        let format = order.format();
-        let station = command::address(order.asking());
-        let last = command::address(order.first);
-        let given = format.given;
-        let reply = format.reply;
-        match stage {
-            Stage::Awaiting => self.status_heard(given, station, Stage::Reply, word),
-            Stage::Reply => self.data_heard(reply <= self.taken, given + 1, word),
-            Stage::AwaitingLast => self.status_heard(given + 1 + reply, last, Stage::Ended, word),
-            Stage::Ended => self.data_heard(true, given + 1, word),
-        }
-    }
-
     // A word on the message's line.
+    #[tactic(auto, unfolding(crate::specs::Judge::on_word, crate::specs::Judge::word_heard))]
     pub fn on_word(self, order: Order, word: Word) -> WordAct
         ensures { result ≡ on_word order self word }
     {
-        let sound = word.sound;
-        let stage = self.stage;
-        if !sound {
+        if !word.sound {
             return WordAct::Fault(1);
         }
-        self.word_heard(stage, order, word)
-    }
-
-    fn silence_heard(self, stage: Stage, order: Order) -> SilenceAct
-        ensures { result ≡ silence_heard stage order self }
-    {
         let format = order.format();
-        match stage {
-            Stage::Awaiting => SilenceAct::Fault(2),
-            Stage::Reply => {
-                if self.taken < format.reply {
-                    return SilenceAct::Fault(3);
-                }
-                if format.last {
-                    return SilenceAct::GoOn(Exchange {
-                        stage: Stage::AwaitingLast,
-                        taken: self.taken,
-                        mark: self.mark,
-                    });
-                }
-                SilenceAct::End
+        let reply = format.given + 1;
+        match self.stage {
+            Stage::Awaiting => {
+                let station = command::address(order.asking());
+                self.status_heard(format.given, station, Stage::Reply, word)
             }
-            Stage::AwaitingLast => SilenceAct::Fault(2),
-            Stage::Ended => SilenceAct::End,
+            Stage::Reply => self.data_heard(format.reply <= self.taken, reply, word),
+            Stage::AwaitingLast => {
+                let station = command::address(order.first);
+                self.status_heard(reply + format.reply, station, Stage::Ended, word)
+            }
+            Stage::Ended => self.data_heard(true, reply, word),
         }
     }
 
     // A silence on the message's line.
+    #[tactic(auto, unfolding(crate::specs::Judge::silence_heard))]
     pub fn on_silence(self, order: Order) -> SilenceAct
         ensures { result ≡ on_silence order self }
     {
-        let stage = self.stage;
-        self.silence_heard(stage, order)
+        let format = order.format();
+        match self.stage {
+            Stage::Awaiting | Stage::AwaitingLast => SilenceAct::Fault(2),
+            Stage::Reply if self.taken < format.reply => SilenceAct::Fault(3),
+            Stage::Reply if format.last => SilenceAct::GoOn(Exchange {
+                stage: Stage::AwaitingLast,
+                ..self
+            }),
+            Stage::Reply | Stage::Ended => SilenceAct::End,
+        }
     }
 }

@@ -16,24 +16,20 @@ pub struct Order {
 
 impl Order {
     // The command that asks for the reply: between two terminals the second, the transmitter's.
+    #[tactic(auto, unfolding(crate::specs::Order::asking_in))]
     pub(crate) fn asking(self) -> u16
         ensures { result ≡ asking_in self }
     {
-        let row = self.row;
-        match row {
-            Row::ToTerminal => self.first,
-            Row::FromTerminal => self.first,
+        match self.row {
             Row::Between => self.second,
-            Row::ModeAlone => self.first,
-            Row::ModeWithWord => self.first,
-            Row::ModeForWord => self.first,
+            _ => self.first,
         }
     }
 
+    #[tactic(auto, unfolding(crate::specs::Order::format_for))]
     pub fn format(self) -> Format
         ensures { result ≡ format_for self }
     {
-        let row = self.row;
-        row.format(self.broadcast, self.asking())
+        self.row.format(self.broadcast, self.asking())
     }
 }

@@ -20,7 +20,7 @@ use Rattle.formats.specs.declared.row.Row.TheVariants.{Between}
 use Rattle.formats.specs.Code.{code_table, coded_by}
 use Rattle.exchange.specs.declared.order.Order.{Order}
 use Rattle.controller.specs.State.{desk_words, desk, at_setup}
-use Rattle.controller.specs.Start.{starting, starting_by, start_step}
+use Rattle.controller.specs.Start.{starting, start_step}
 use Rattle.controller.specs.Actions.{start_action}
 use Rattle.rack.specs.Hearing.{Stamps}
 use Rattle.rack.specs.Bus.{Rack, rack, message}
@@ -65,7 +65,7 @@ idle_9 =
     }
 
 starts : start_action start.desk ≡ starting order start.desk
-unfolding start start_action start_step starting_by coded_by code_table cell_at
+unfolding start start_action start_step coded_by code_table cell_at
 starts = refl
 
 ready_5 : Ready false 0x2862 (terminal_of 5)

@@ -1,7 +1,6 @@
 -- What is asked of a message, by the terminal's own definitions: the terminals are idle and ready,
 -- the commands fit their row, and their stations are on the bus. Definitions only. Assumes nothing.
-use Rattle.std.specs.Prelude.{◌≡◌, ◌≢◌, Bool, true, false, cond, List, ℕ}
-use Rattle.std.proofs.Math.Option.{Option, some, none}
+use Rattle.std.specs.Prelude.{◌≡◌, ◌≢◌, Bool, true, false, cond, List, ℕ, Option, Some, None}
 use Rattle.bus.specs.declared.word.Word.{Word}
 use Rattle.bus.specs.declared.kind.Kind.{Kind}
 use Rattle.bus.specs.declared.kind.Kind.TheVariants.{
@@ -74,13 +73,13 @@ pub record Ready (line : Bool) (command : ℕ) (terminal : Card) : Type 0 where
 -- which of its commands a terminal takes: between two terminals the second if that is own, else the
 -- first
 abbrev pub taken_alone : ℕ → Card → Option ℕ
-taken_alone first terminal = cond (is_own first terminal) (some first) none
+taken_alone first terminal = cond (is_own first terminal) (Some first) None
 
 abbrev pub taken_of : Row → ℕ → ℕ → Card → Option ℕ
 taken_of ToTerminal first second terminal = taken_alone first terminal
 taken_of FromTerminal first second terminal = taken_alone first terminal
 taken_of Between first second terminal =
-    cond (is_own second terminal) (some second) (taken_alone first terminal)
+    cond (is_own second terminal) (Some second) (taken_alone first terminal)
 taken_of ModeAlone first second terminal = taken_alone first terminal
 taken_of ModeWithWord first second terminal = taken_alone first terminal
 taken_of ModeForWord first second terminal = taken_alone first terminal
@@ -89,8 +88,8 @@ abbrev pub taken : Order → Card → Option ℕ
 taken order terminal = taken_of order.row order.first order.second terminal
 
 abbrev pub ReadyFor : Bool → Option ℕ → Card → Type 0
-ReadyFor line none terminal = Unit {0}
-ReadyFor line (some command) terminal = Ready line command terminal
+ReadyFor line None terminal = Unit {0}
+ReadyFor line (Some command) terminal = Ready line command terminal
 
 -- ---- fit commands
 

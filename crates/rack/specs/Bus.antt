@@ -18,9 +18,10 @@ use Rattle.std.specs.Prelude.{
   ltb,
   get_or,
   drop,
+  Option,
+  Some,
+  None,
 }
-use Rattle.message.specs.declared.state.Second.{Second}
-use Rattle.message.specs.declared.state.Second.TheVariants.{Absent, Command}
 use Rattle.terminal.specs.State.{Card}
 use Rattle.formats.specs.declared.row.Row.{Row}
 use Rattle.formats.specs.declared.row.Row.TheVariants.{
@@ -33,10 +34,8 @@ use Rattle.formats.specs.declared.row.Row.TheVariants.{
 }
 use Rattle.exchange.specs.declared.order.Order.{Order}
 use Rattle.exchange.specs.Order.{format_for}
-use Rattle.controller.specs.declared.state.Message.{Message}
-use Rattle.controller.specs.declared.state.Message.TheVariants.{Idle, Open}
+use Rattle.controller.specs.declared.state.OpenMessage.{OpenMessage}
 use Rattle.controller.specs.declared.start.Given.{Given as GivenWords}
-use Rattle.controller.specs.declared.start.Given.TheVariants.{Nothing as NoWords, Words}
 use Rattle.controller.specs.Control.{line_in}
 use Rattle.controller.specs.State.{Desk, is_idle}
 use Rattle.controller.specs.Start.{Started}
@@ -119,13 +118,13 @@ abbrev pub most_turns : ℕ
 most_turns = 8
 
 -- commands, then data: only between two terminals is the second word a command
-abbrev pub second_given : Row → ℕ → Second
-second_given ToTerminal value = Absent
-second_given FromTerminal value = Absent
-second_given Between value = Command value
-second_given ModeAlone value = Absent
-second_given ModeWithWord value = Absent
-second_given ModeForWord value = Absent
+abbrev pub second_given : Row → ℕ → Option ℕ
+second_given ToTerminal value = None
+second_given FromTerminal value = None
+second_given Between value = Some value
+second_given ModeAlone value = None
+second_given ModeWithWord value = None
+second_given ModeForWord value = None
 
 unfoldable pub segment_of : Order → List ℕ → Segment
 segment_of order words =
@@ -133,11 +132,11 @@ segment_of order words =
     (drop ((format_for order).given - (format_for order).behind) words)
 
 -- what a start says, by what it gives and the message that it opens
-abbrev pub said_at_start : GivenWords → Message → List ℕ → List Spoken
-said_at_start NoWords message ram = []
-said_at_start (Words block count) Idle ram = []
-said_at_start (Words block count) (Open message) ram =
-    Given (segment_of message.order (given_part ram block count)) ∷ []
+abbrev pub said_at_start : Option GivenWords → Option OpenMessage → List ℕ → List Spoken
+said_at_start None message ram = []
+said_at_start (Some given) None ram = []
+said_at_start (Some given) (Some message) ram =
+    Given (segment_of message.order (given_part ram given.block given.count)) ∷ []
 
 -- a message that is started is carried to its end; where none is, nothing changes
 unfoldable pub begun : (ℕ → Stamps) → Started → Rack → Rack

@@ -1,8 +1,21 @@
 -- That every message ends, whatever its commands ask: soon the controller is idle and no reply
 -- waits. Definitions only; proved in `proofs/Theorems`. Assumes nothing.
-use Rattle.std.specs.Prelude.{◌≡◌, Bool, true, false, ◌&&◌, ◌||◌, List, ◌++◌, ℕ, zero, suc, ◌≤◌}
+use Rattle.std.specs.Prelude.{
+  ◌≡◌,
+  Bool,
+  true,
+  false,
+  ◌&&◌,
+  ◌||◌,
+  List,
+  ◌++◌,
+  ℕ,
+  zero,
+  suc,
+  ◌≤◌,
+  None,
+}
 use Rattle.exchange.specs.declared.order.Order.{Order}
-use Rattle.controller.specs.declared.state.Message.TheVariants.{Idle}
 use Rattle.controller.specs.Control.{line_in}
 use Rattle.controller.specs.State.{is_idle}
 use Rattle.controller.specs.Start.{Started, starting}
@@ -48,7 +61,7 @@ enough_turns = 3
 
 -- all are idle
 pub record AllIdle (new : Rack) : Type 0 where
-  pub desk : new.desk.state.message ≡ Idle
+  pub desk : new.desk.state.message ≡ None
   pub terminals : Each IsIdle new.terminals
 
 -- so many turns are enough, and then all are idle

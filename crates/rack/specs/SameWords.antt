@@ -1,16 +1,12 @@
 -- The same words at both ends: what a message of fit commands leaves on a sound bus, and a run of
 -- them. Definitions only; proved in `proofs/Theorems`. Assumes nothing.
-use Rattle.std.specs.Prelude.{◌≡◌, List, ℕ, zero, suc, ◌+◌, ◌<◌, length}
-use Rattle.std.proofs.Math.Option.{Option, some, none}
+use Rattle.std.specs.Prelude.{◌≡◌, List, ℕ, zero, suc, ◌+◌, ◌<◌, length, Option, Some, None}
 use Rattle.card.specs.Memory.{the_cell, cell_at}
 use Rattle.terminal.specs.State.{Card}
 use Rattle.formats.specs.Row.{data_cell, data_words}
 use Rattle.exchange.specs.declared.order.Order.{Order}
 use Rattle.exchange.specs.Order.{format_for}
-use Rattle.controller.specs.declared.state.Result.{Result}
-use Rattle.controller.specs.declared.state.Result.TheVariants.{Absent, Came}
-use Rattle.controller.specs.declared.state.Message.TheVariants.{Idle}
-use Rattle.controller.specs.declared.start.Given.TheVariants.{Nothing}
+use Rattle.controller.specs.declared.state.Came.{Came}
 use Rattle.controller.specs.Control.{block_in}
 use Rattle.controller.specs.State.{Desk}
 use Rattle.controller.specs.Start.{starting}
@@ -32,17 +28,17 @@ SameWords order desk ram command old new =
 -- a terminal that takes a command is idle again with the same words, and no other cell has changed;
 -- any other terminal is as before
 abbrev pub Served : Order → Desk → List ℕ → Option ℕ → Card → Card → Type 0
-Served order desk ram none old new = new ≡ old
-Served order desk ram (some command) old new =
+Served order desk ram None old new = new ≡ old
+Served order desk ram (Some command) old new =
     IsIdle new × SameWords order desk ram command old new × ChangesOnly command old new
 
 -- a result with this code
-abbrev pub HasCode : ℕ → Result → Type 0
-HasCode code Absent = ⊥
-HasCode code (Came given mark) = given ≡ code
+abbrev pub HasCode : ℕ → Option Came → Type 0
+HasCode code None = ⊥
+HasCode code (Some came) = came.code ≡ code
 
 pub record Promised (order : Order) (old new : Rack) : Type 0 where
-  pub over : new.desk.state.message ≡ Idle
+  pub over : new.desk.state.message ≡ None
   pub code : HasCode 0 new.desk.state.result
   pub long : length new.desk.ram ≡ length old.desk.ram
   pub terminals : EachOf (λ before after.
@@ -70,5 +66,5 @@ PromisedEach zero clocks old = Unit {0}
 PromisedEach (suc more) clocks old =
     ((order : Order) → start_action old.desk ≡ starting order old.desk
     → Promised order old (message (clocks more) old))
-    × ((start_action old.desk).given ≡ Nothing → message (clocks more) old ≡ old)
+    × ((start_action old.desk).given ≡ None → message (clocks more) old ≡ old)
     × PromisedEach more clocks (message (clocks more) old)

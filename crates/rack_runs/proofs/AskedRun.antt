@@ -4,13 +4,12 @@ use mathlib.Core.Path.{◌≡◌, refl, ap, sym, subst, ◌∙◌}
 use mathlib.Core.Bool.{Bool, true, false}
 use Prim.Native.Nat.{ℕ}
 use borrow.Author.Tests.{eqb-false}
+use Rattle.std.proofs.Common.{Option, Some, None}
 use Rattle.formats.specs.declared.row.Row.{Row}
 use Rattle.formats.specs.declared.row.Row.TheVariants.{ToTerminal, FromTerminal, Between}
-use Rattle.formats.specs.declared.code.Coded.TheVariants.{Format}
-use Rattle.formats.specs.Code.{coded_by}
+use Rattle.formats.specs.Code.{format, coded_by}
 use Rattle.exchange.specs.declared.order.Order.{Order}
-use Rattle.controller.specs.declared.state.Message.{Message}
-use Rattle.controller.specs.declared.state.Message.TheVariants.{Idle, Open}
+use Rattle.controller.specs.declared.state.OpenMessage.{OpenMessage}
 use Rattle.controller.specs.Control.{line_in, code_in}
 use Rattle.controller.specs.State.{Desk}
 use Rattle.controller.specs.Start.{Started, may_start, order_in, with_order, starting}
@@ -48,7 +47,7 @@ module _ (row : Row) (first second : ℕ) (old : Rack) where
   line = line_in old.desk.state.control
 
   asked_by : whole_desk old.desk ≡ true → may_start old.desk.state ≡ true
-      → coded_by (code_in old.desk.state.control) ≡ Format row false
+      → coded_by (code_in old.desk.state.control) ≡ format row false
       → order_in row false old.desk ≡ order
       → FitOrder order
       → AllAddressed row first second old.terminals
@@ -72,12 +71,12 @@ module _ (row : Row) (first second : ℕ) (old : Rack) where
 
 -- ---- a desk starts one order
 
-abbrev opened_in : Order → Message → Order
-opened_in other Idle = other
-opened_in other (Open message) = message.order
+abbrev opened_in : Order → Option OpenMessage → Order
+opened_in other None = other
+opened_in other (Some message) = message.order
 
 same_order : (old : Desk) (one other : Order) → starting one old ≡ starting other old → one ≡ other
-unfolding starting with_order
+unfolding with_order
 same_order old one other same =
     ap (λ (started : Started). opened_in one started.desk.state.message) same
 

@@ -9,8 +9,7 @@ use Rattle.card.specs.Memory.{the_block}
 use Rattle.terminal.specs.State.{Card}
 use Rattle.formats.specs.declared.row.Row.TheVariants.{ToTerminal}
 use Rattle.exchange.specs.declared.order.Order.{Order}
-use Rattle.controller.specs.declared.state.Result.TheVariants.{Came}
-use Rattle.controller.specs.State.{Desk}
+use Rattle.controller.specs.State.{came, Desk}
 use Rattle.controller.specs.Start.{order_in}
 use Rattle.rack.specs.Hearing.{Stamps}
 use Rattle.rack.specs.Bus.{Rack, rack, message}
@@ -45,7 +44,7 @@ deaf_is_idle = idle_by refl refl refl refl
 abbrev old : Rack
 old = rack to_all (five ∷ deaf_nine ∷ [])
 
-the_broadcast_ends_with_code_0 : (message clock old).desk.state.result ≡ Came 0 false
+the_broadcast_ends_with_code_0 : (message clock old).desk.state.result ≡ came 0 false
 unfolding told deaf_nine
 the_broadcast_ends_with_code_0 = refl
 

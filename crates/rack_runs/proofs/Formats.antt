@@ -1,11 +1,12 @@
 -- The ten format codes at work: one proof over the table of `specs/Formats.antt`, at two terminals
 -- with other tables and other memories. Assumes nothing.
+use Rattle.std.proofs.Common.{None, Option, Some}
 use mathlib.Core.Path.{◌≡◌, refl}
 use mathlib.Core.Bool.{◌&&◌}
 use mathlib.Core.List.{List, [], ◌∷◌, map}
-use mathlib.Core.Option.{Option, some, none}
 use Prim.Native.Nat.{ℕ}
 use lib.ListN.{get_or}
+use Rattle.std.proofs.Common.{Option, Some, None}
 use Rattle.terminal.specs.State.{Card}
 use Rattle.formats.specs.Row.{data_cell, data_words}
 use Rattle.exchange.specs.declared.order.Order.{Order}
@@ -23,8 +24,8 @@ use Rattle.rack_runs.proofs.Tests.{all_of, has_ended}
 
 -- the ends of an order, by the terminals before and after
 abbrev with_end : Order → Option ℕ → Card → Card → List End → List End
-with_end order none before after ends = ends
-with_end order (some command) before after ends =
+with_end order None before after ends = ends
+with_end order (Some command) before after ends =
     end_of after.core.station
     (cells_from (opened_for command before).block 0 (data_words (format_for order)) after.ram)
     ∷ ends

@@ -26,7 +26,7 @@ use Rattle.formats.specs.Row.{format_of}
 use Rattle.exchange.specs.Order.{asking_in, format_for}
 use Rattle.exchange.specs.Judge as judge
 use Rattle.controller.specs.State as desks
-use Rattle.controller.specs.Start.{with_order, starting, starting_by, start_step}
+use Rattle.controller.specs.Start.{with_order, start_step}
 use Rattle.controller.specs.Heard as heard
 use Rattle.controller.specs.Actions.{start_action}
 use Rattle.rack.specs.Segment.{data_words, at_station, at_desk}
@@ -76,14 +76,13 @@ fitness = 0
 -- ---- the controller
 
 starts : ℕ
-unfolding code_table coded_by format_of asking_in format_for desks.with_message with_order starting
-    starting_by start_step start_action
+unfolding code_table coded_by format_of asking_in format_for desks.with_message with_order
+    start_step start_action
 starts = 0
 
 answers : ℕ
 unfolding judge.status_heard judge.data_heard judge.word_heard judge.on_word judge.silence_heard
-    heard.ended heard.word_done heard.word_met heard.word_step heard.silence_done heard.silence_met
-    heard.silence_step
+    heard.ended heard.word_step heard.silence_step
 answers = 0
 
 -- ---- the bus

@@ -5,11 +5,12 @@ use mathlib.Core.Path.{◌≡◌, refl}
 use mathlib.Core.Bool.{true, false}
 use mathlib.Core.List.{List, [], ◌∷◌, map}
 use Prim.Native.Nat.{ℕ}
+use Rattle.std.proofs.Common.{Option}
 use Rattle.card.specs.Memory.{the_block}
 use Rattle.queue.specs.Queue.{empty_queue}
 use Rattle.terminal.specs.State.{Card, card, with_status, core_at_setup}
-use Rattle.controller.specs.declared.state.Result.{Result}
-use Rattle.controller.specs.declared.state.Result.TheVariants.{Came}
+use Rattle.controller.specs.State.{came}
+use Rattle.controller.specs.declared.state.Came.{Came}
 use Rattle.rack.specs.Bus.{Rack, rack, message}
 use Rattle.rack_runs.proofs.Telling.{
   cells_from,
@@ -23,11 +24,11 @@ use Rattle.rack_runs.proofs.Telling.{
 
 -- the result of a message, the controller's cells from 0 to 6, the last command of each terminal
 record Outcome : Type 0 where
-  result : Result
+  result : Option Came
   cells : List ℕ
   lasts : List ℕ
 
-abbrev outcome : Result → List ℕ → List ℕ → Outcome
+abbrev outcome : Option Came → List ℕ → List ℕ → Outcome
 outcome result cells lasts = record { result = result; cells = cells; lasts = lasts }
 
 unfoldable outcome_of : Rack → Outcome
@@ -44,14 +45,14 @@ both_reply terminals = message clock (rack (desk_of 2 (0x4C09 ∷ 0x2C62 ∷ [])
 -- silence between them, the code would be 5 or 3
 two_replies_go_out_by_rising_station :
     outcome_of (both_reply (nine ∷ five ∷ []))
-    ≡ outcome (Came 0 true)
+    ≡ outcome (came 0 true)
     (0x4C09 ∷ 0x2C62 ∷ 0x2800 ∷ 0xAAAA ∷ 0xBBBB ∷ 0x4C00 ∷ 12 ∷ []) (0x4C09 ∷ 0x2C62 ∷ [])
 unfolding told outcome_of
 two_replies_go_out_by_rising_station = refl
 
 the_order_of_the_list_is_of_no_account :
     outcome_of (both_reply (five ∷ nine ∷ []))
-    ≡ outcome (Came 0 true)
+    ≡ outcome (came 0 true)
     (0x4C09 ∷ 0x2C62 ∷ 0x2800 ∷ 0xAAAA ∷ 0xBBBB ∷ 0x4C00 ∷ 12 ∷ []) (0x2C62 ∷ 0x4C09 ∷ [])
 unfolding told outcome_of
 the_order_of_the_list_is_of_no_account = refl
@@ -71,7 +72,7 @@ behind_the_end =
 -- goes out, and is the last command of station 5
 a_reply_behind_the_end_is_carried :
     outcome_of behind_the_end
-    ≡ outcome (Came 5 false) (0x2C09 ∷ 0x4C02 ∷ 12 ∷ 12 ∷ 12 ∷ 12 ∷ 12 ∷ [])
+    ≡ outcome (came 5 false) (0x2C09 ∷ 0x4C02 ∷ 12 ∷ 12 ∷ 12 ∷ 12 ∷ 12 ∷ [])
     (0x4C02 ∷ 0x2C01 ∷ [])
 unfolding told strange_nine outcome_of
 a_reply_behind_the_end_is_carried = refl
@@ -87,14 +88,14 @@ it_has_its_own_silence = refl
 
 x_too_much_ends_with_code_0 :
     outcome_of (message clock (rack (desk_of 8 (0x2862 ∷ 0x1111 ∷ 0x2222 ∷ [])) (nine ∷ five ∷ [])))
-    ≡ outcome (Came 0 false) (0x2862 ∷ 0x1111 ∷ 0x2222 ∷ 12 ∷ 12 ∷ 12 ∷ 12 ∷ [])
+    ≡ outcome (came 0 false) (0x2862 ∷ 0x1111 ∷ 0x2222 ∷ 12 ∷ 12 ∷ 12 ∷ 12 ∷ [])
     (0 ∷ 0x2862 ∷ [])
 unfolding told outcome_of
 x_too_much_ends_with_code_0 = refl
 
 x_too_much_between_two_ends_with_code_0 :
     outcome_of (message clock (rack (desk_of 10 (0x2862 ∷ 0x4C62 ∷ [])) (nine ∷ five ∷ [])))
-    ≡ outcome (Came 0 false) (0x2862 ∷ 0x4C62 ∷ 0x4800 ∷ 0xCCCC ∷ 0xDDDD ∷ 12 ∷ 12 ∷ [])
+    ≡ outcome (came 0 false) (0x2862 ∷ 0x4C62 ∷ 0x4800 ∷ 0xCCCC ∷ 0xDDDD ∷ 12 ∷ 12 ∷ [])
     (0x4C62 ∷ 0x2862 ∷ [])
 unfolding told outcome_of
 x_too_much_between_two_ends_with_code_0 = refl

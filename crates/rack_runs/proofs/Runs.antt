@@ -5,11 +5,11 @@ use mathlib.Core.Bool.{Bool, true, false}
 use mathlib.Core.List.{List, [], ◌∷◌, ◌++◌, map}
 use Prim.Native.Nat.{ℕ}
 use lib.ListN.{replicate}
+use Rattle.std.proofs.Common.{Option}
 use Rattle.card.specs.Memory.{the_block}
 use Rattle.terminal.specs.State.{Card}
-use Rattle.controller.specs.declared.state.Result.{Result}
-use Rattle.controller.specs.declared.state.Result.TheVariants.{Came}
-use Rattle.controller.specs.State.{desk_words, Desk, desk, at_setup}
+use Rattle.controller.specs.declared.state.Came.{Came}
+use Rattle.controller.specs.State.{came, desk_words, Desk, desk, at_setup}
 use Rattle.rack.specs.Bus.{Rack, rack, messages}
 use Rattle.rack_runs.proofs.Telling.{
   put,
@@ -30,10 +30,10 @@ record Behind : Type 0 where
   control : ℕ
   left : ℕ
   due : Bool
-  result : Result
+  result : Option Came
   blocks : List (List ℕ)
 
-abbrev behind : ℕ → ℕ → Bool → Result → List (List ℕ) → Behind
+abbrev behind : ℕ → ℕ → Bool → Option Came → List (List ℕ) → Behind
 behind control left due result blocks =
     record { control = control; left = left; due = due; result = result; blocks = blocks }
 
@@ -66,7 +66,7 @@ three left = rack (chained left to_five 0x0131) (five ∷ nine ∷ [])
 -- all three are carried; the last does not go on
 the_chain_goes_on_by_cell_63 :
     behind_of (run_of (three 7))
-    ≡ behind 0x0142 4 false (Came 0 false)
+    ≡ behind 0x0142 4 false (came 0 false)
     ((0x2862 ∷ 0x1111 ∷ 0x2222 ∷ 0x2800 ∷ 12 ∷ 12 ∷ [])
     ∷ (0x4C62 ∷ 0x4800 ∷ 0xCCCC ∷ 0xDDDD ∷ 12 ∷ 12 ∷ [])
     ∷ (0x4862 ∷ 0x2C62 ∷ 0x2800 ∷ 0xAAAA ∷ 0xBBBB ∷ 0x4800 ∷ [])
@@ -87,7 +87,7 @@ the_terminals_hold_what_they_received = refl
 -- with two starts the third message stays due, and nothing has come back of it
 the_count_ends_a_run :
     behind_of (run_of (three 2))
-    ≡ behind 0x0142 0 true (Came 0 false)
+    ≡ behind 0x0142 0 true (came 0 false)
     ((0x2862 ∷ 0x1111 ∷ 0x2222 ∷ 0x2800 ∷ 12 ∷ 12 ∷ [])
     ∷ (0x4C62 ∷ 0x4800 ∷ 0xCCCC ∷ 0xDDDD ∷ 12 ∷ 12 ∷ [])
     ∷ (0x4862 ∷ 0x2C62 ∷ 12 ∷ 12 ∷ 12 ∷ 12 ∷ [])
@@ -102,7 +102,7 @@ to_twelve = rack (chained 7 (0x6062 ∷ 0x1111 ∷ 0x2222 ∷ []) 0x0131) (five 
 
 a_fault_stops_a_run :
     behind_of (run_of to_twelve)
-    ≡ behind 0x00D0 6 false (Came 2 false)
+    ≡ behind 0x00D0 6 false (came 2 false)
     ((0x6062 ∷ 0x1111 ∷ 0x2222 ∷ 12 ∷ 12 ∷ 12 ∷ [])
     ∷ (0x4C62 ∷ 12 ∷ 12 ∷ 12 ∷ 12 ∷ 12 ∷ [])
     ∷ (0x4862 ∷ 0x2C62 ∷ 12 ∷ 12 ∷ 12 ∷ 12 ∷ [])
@@ -120,7 +120,7 @@ requested = rack (chained 7 to_five 0x0131) (requesting_five ∷ nine ∷ [])
 
 a_set_status_bit_stops_a_run :
     behind_of (run_of requested)
-    ≡ behind 0x00D0 6 false (Came 0 true)
+    ≡ behind 0x00D0 6 false (came 0 true)
     ((0x2862 ∷ 0x1111 ∷ 0x2222 ∷ 0x2900 ∷ 12 ∷ 12 ∷ [])
     ∷ (0x4C62 ∷ 12 ∷ 12 ∷ 12 ∷ 12 ∷ 12 ∷ [])
     ∷ (0x4862 ∷ 0x2C62 ∷ 12 ∷ 12 ∷ 12 ∷ 12 ∷ [])
@@ -135,7 +135,7 @@ to_lacking = rack (chained 7 to_five 0x0116) (five ∷ nine ∷ [])
 
 a_lacking_code_ends_a_run :
     behind_of (run_of to_lacking)
-    ≡ behind 0x0116 6 true (Came 0 false)
+    ≡ behind 0x0116 6 true (came 0 false)
     ((0x2862 ∷ 0x1111 ∷ 0x2222 ∷ 0x2800 ∷ 12 ∷ 12 ∷ [])
     ∷ (0x4C62 ∷ 12 ∷ 12 ∷ 12 ∷ 12 ∷ 12 ∷ [])
     ∷ (0x4862 ∷ 0x2C62 ∷ 12 ∷ 12 ∷ 12 ∷ 12 ∷ [])
@@ -155,7 +155,7 @@ looping = rack (chained 5 to_five 0x00D0) (looping_five ∷ [])
 
 a_loop_is_ended_by_its_count :
     behind_of (run_of looping)
-    ≡ behind 0x00D0 0 true (Came 0 false)
+    ≡ behind 0x00D0 0 true (came 0 false)
     ((0x2862 ∷ 0x1111 ∷ 0x2222 ∷ 0x2800 ∷ 12 ∷ 12 ∷ [])
     ∷ (0x4C62 ∷ 12 ∷ 12 ∷ 12 ∷ 12 ∷ 12 ∷ [])
     ∷ (0x4862 ∷ 0x2C62 ∷ 12 ∷ 12 ∷ 12 ∷ 12 ∷ [])

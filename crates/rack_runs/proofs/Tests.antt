@@ -1,24 +1,24 @@
 -- What is asked of a list of terminals, from tests that the checker computes, whatever the list.
 -- Assumes nothing.
+use Rattle.std.proofs.Common.{None, Option, Some}
 use mathlib.Core.Path.{◌≡◌, refl}
 use mathlib.Core.Bool.{Bool, true, false, cond, not, ◌&&◌, ◌||◌}
 use mathlib.Core.List.{List, [], ◌∷◌}
-use mathlib.Core.Option.{Option, some, none}
 use Prim.Native.Nat.{ℕ}
 use lib.Dec.{eqb}
 use lib.ListN.{length}
 use borrow.Author.Tests.{eqb-true, eqb-false, not-true}
+use Rattle.std.proofs.Common.{Option, Some, None}
 use Rattle.rules.proofs.Clash.{clash}
 use Rattle.rules.proofs.Halves.{first_of_both, second_of_both}
 use Rattle.bus.specs.Command.{address_of}
 use Rattle.card.specs.Memory.{card_words}
-use Rattle.message.specs.declared.state.Message.{Message}
-use Rattle.message.specs.declared.state.Message.TheVariants.{Idle, Open}
 use Rattle.terminal.specs.State.{Card}
 use Rattle.terminal.specs.Fitness.{fit_card}
 use Rattle.rack.specs.Terminals.{Each, Different, OnBus, here, there}
 use Rattle.rack.specs.Asked.{IsIdle, opened_for, ReadyFor}
 use Rattle.rack_runs.proofs.Having.{idle_by, ready_by}
+use Rattle.message.specs.declared.state.OpenMessage.{OpenMessage}
 
 -- ---- each of them
 
@@ -38,13 +38,13 @@ each_by test tells (terminal ∷ terminals) passed =
 
 -- ---- idle
 
-abbrev pub has_ended : Message → Bool
-has_ended Idle = true
-has_ended (Open message) = false
+abbrev pub has_ended : Option OpenMessage → Bool
+has_ended None = true
+has_ended (Some message) = false
 
-ended_is_idle : (message : Message) → has_ended message ≡ true → message ≡ Idle
-ended_is_idle Idle ended = refl
-ended_is_idle (Open message) ended = absurd (clash (cc))
+ended_is_idle : (message : Option OpenMessage) → has_ended message ≡ true → message ≡ None
+ended_is_idle None ended = refl
+ended_is_idle (Some message) ended = absurd (clash (cc))
 
 unfoldable pub is_idle_card : Card → Bool
 is_idle_card old =
@@ -72,8 +72,8 @@ idle_card old passed =
 -- ---- ready for the command that it takes
 
 unfoldable pub is_ready : Bool → Option ℕ → Card → Bool
-is_ready line none old = true
-is_ready line (some command) old =
+is_ready line None old = true
+is_ready line (Some command) old =
     not (opened_for command old).busy
     && (not (eqb (opened_for command old).block.0 (opened_for command old).table.0)
     && not (cond line old.core.shut.b old.core.shut.a))
@@ -81,8 +81,8 @@ is_ready line (some command) old =
 pub ready_card : (line : Bool) (command : Option ℕ) (old : Card) → is_ready line command old ≡ true
     → ReadyFor line command old
 unfolding is_ready
-ready_card line none old passed = tt
-ready_card line (some command) old passed =
+ready_card line None old passed = tt
+ready_card line (Some command) old passed =
     let busy : Bool = (opened_for command old).busy in
     let table : Bool =
     eqb (opened_for command old).block.0 (opened_for command old).table.0 in

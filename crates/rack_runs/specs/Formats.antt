@@ -1,7 +1,7 @@
 -- A message of each format code of document 001's table, as data, and what is seen behind it. The
 -- terminals are stations 5 and 9; the data words that they send are AAAA, BBBB and CCCC, DDDD.
 -- Definitions only. Assumes nothing.
-use Rattle.std.specs.Prelude.{Bool, true, false, List, [], ◌∷◌, map, ℕ}
+use Rattle.std.specs.Prelude.{Bool, true, false, List, [], ◌∷◌, map, ℕ, Option}
 use Rattle.formats.specs.declared.row.Row.{Row}
 use Rattle.formats.specs.declared.row.Row.TheVariants.{
   ToTerminal,
@@ -11,8 +11,8 @@ use Rattle.formats.specs.declared.row.Row.TheVariants.{
   ModeWithWord,
   ModeForWord,
 }
-use Rattle.controller.specs.declared.state.Result.{Result}
-use Rattle.controller.specs.declared.state.Result.TheVariants.{Came}
+use Rattle.controller.specs.State.{came}
+use Rattle.controller.specs.declared.state.Came.{Came}
 
 -- a terminal that takes a command of the message: its station, and the data words in its block
 pub record End : Type 0 where
@@ -26,7 +26,7 @@ end_of station words = record { station = station; words = words }
 -- the controller, and at the other ends; the last command of each terminal, 0 for none; the last
 -- word of each memory, the controller's first
 pub record Seen : Type 0 where
-  pub result : Result
+  pub result : Option Came
   pub idle : Bool
   pub words : List ℕ
   pub ends : List End
@@ -37,7 +37,7 @@ pub record Seen : Type 0 where
 abbrev pub carried : List ℕ → List ℕ → List ℕ → Seen
 carried words stations lasts =
     record {
-      result = Came 0 false;
+      result = came 0 false;
       idle = true;
       words = words;
       ends = map (λ (station : ℕ). end_of station words) stations;

@@ -38,3 +38,8 @@ refusal_in (Some refusal) = number_of refusal
 abbrev pub refused : {A : Type 0} → Result A Refusal → ℕ
 refused (Ok outcome) = 0
 refused (Err refusal) = number_of refusal
+
+-- nothing where it is refused
+abbrev pub outcome_in : {A : Type 0} → Result (Option A) Refusal → Option A
+outcome_in (Ok outcome) = outcome
+outcome_in (Err refusal) = None

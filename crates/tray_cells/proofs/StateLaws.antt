@@ -1,5 +1,6 @@
 -- The laws of `specs/State.antt`: the parts of the state's text in turn, as the code puts them.
 -- Assumes nothing.
+use Rattle.std.proofs.Common.{None, Option, Some}
 use mathlib.Core.Path.{◌≡◌, refl}
 use mathlib.Core.Bool.{Bool, true, false}
 use mathlib.Core.List.{List, [], ◌∷◌, ◌++◌, append_assoc, append-nil}
@@ -18,11 +19,7 @@ use Rattle.message.specs.declared.state.Stage.TheVariants.{
   AwaitingStatus,
   Skipping,
 }
-use Rattle.message.specs.declared.state.Second.{Second}
-use Rattle.message.specs.declared.state.Second.TheVariants.{Absent, Command}
 use Rattle.message.specs.declared.state.OpenMessage.{OpenMessage}
-use Rattle.message.specs.declared.state.Message.{Message}
-use Rattle.message.specs.declared.state.Message.TheVariants.{Idle, Open}
 use Rattle.lines.specs.Digits.{hex_word, decimal}
 use Rattle.lines.specs.Lines.{blank, newline}
 use Rattle.lines.specs.declared.Page.{Page}
@@ -56,12 +53,12 @@ module _ {old new : Page} where
       → Fits old (part "line " (line_name on)) new
   line_b on is fits = rw is fits
 
-  module _ (second : Second) where
-    pub no_second : second ≡ Absent → Fits old (bytes "second none ") new
+  module _ (second : Option ℕ) where
+    pub no_second : second ≡ None → Fits old (bytes "second none ") new
         → Fits old (part "second " (second_text second)) new
     no_second is fits = rw is fits
 
-    pub second_command : (command : ℕ) → second ≡ Command command
+    pub second_command : (command : ℕ) → second ≡ Some command
         → Fits old (part "second " (hex_word command)) new
         → Fits old (part "second " (second_text second)) new
     second_command command is fits = rw is fits
@@ -84,7 +81,7 @@ module _ {old new : Page} where
         → Fits old (line "stage " (stage_text stage)) new
     stage_skipping is fits = rw is fits
 
-  pub message_idle : (message : Message) → message ≡ Idle
+  pub message_idle : (message : Option OpenMessage) → message ≡ None
       → Fits old (bytes "open none\n") new
       → Fits old (message_text message) new
   unfolding message_text
@@ -108,7 +105,8 @@ module _ {old new : Page} where
   unfolding state_text
   state_some run places is fits = rw is fits
 
-  pub message_open : (message : Message) (held : OpenMessage) → message ≡ Open held
+  pub message_open : (message : Option OpenMessage) (held : OpenMessage)
+      → message ≡ Some held
       → Fits old (opening_text held ++ fixed_text held ++ progress_text held) new
       → Fits old (message_text message) new
   unfolding message_text

@@ -24,7 +24,7 @@ ghost use Rattle.tray_cells.specs.State.{
 };
 
 use lines::Page;
-use message::state::{Message, OpenMessage, Second, Stage};
+use message::state::{OpenMessage, Stage};
 use queue::Ring;
 use shown::item::put_item;
 use shown::text::{Hex, Shown, put_text};
@@ -52,12 +52,12 @@ fn put_opened(page: &mut Page, opened: u32)
     put_text(page, b" ");
 }
 
-fn put_second(page: &mut Page, second: Second)
+fn put_second(page: &mut Page, second: Option<u16>)
     ensures { Fits page.old (part "second " (second_text second)) page.new }
 {
     match second {
-        Second::Absent => put_text(page, b"second none "),
-        Second::Command(command) => put_item(page, b"second ", &Hex(command), b' '),
+        None => put_text(page, b"second none "),
+        Some(command) => put_item(page, b"second ", &Hex(command), b' '),
     }
 }
 
@@ -101,12 +101,12 @@ fn put_progress(page: &mut Page, message: OpenMessage)
     put_stage(page, message.stage);
 }
 
-fn put_message(page: &mut Page, message: Message)
+fn put_message(page: &mut Page, message: Option<OpenMessage>)
     ensures { Fits page.old (message_text message) page.new }
 {
     match message {
-        Message::Idle => put_text(page, b"open none\n"),
-        Message::Open(open) => {
+        None => put_text(page, b"open none\n"),
+        Some(open) => {
             put_opening(page, open);
             put_fixed(page, open);
             put_progress(page, open);

@@ -1,5 +1,6 @@
 -- What the code holds of a run, as the definitions have it. Definitions only. Assumes nothing.
-use Rattle.std.specs.Prelude.{◌≡◌, ℕ, ◌*◌, ◌≤◌, List}
+use Rattle.std.specs.Prelude.{◌≡◌, ℕ, ◌*◌, ◌≤◌, List, None, Result, Ok, Err}
+use Rattle.refusals.specs.declared.Refusal.{Refusal}
 use Rattle.recording.specs.declared.field.Field.TheVariants.{HostWrite}
 use Rattle.recording.specs.Bytes.{bytes_left}
 use Rattle.recording.specs.Seen.{nothing_seen}
@@ -7,6 +8,8 @@ use Rattle.pieces.specs.AsCoded.Window as pieces
 use Rattle.controller.specs.State.{desk, at_setup}
 use Rattle.desk.specs.declared.field.Field.{Field}
 use Rattle.desk.specs.declared.field.Field.TheVariants.{Shared}
+use Rattle.desk.specs.declared.deed.Answer.{Answer}
+use Rattle.desk.specs.declared.deed.Answer.TheVariants.{Gave}
 use Rattle.desk.specs.declared.run.Run.{Run as HeldRun}
 use Rattle.desk.specs.declared.window.Passed.{Passed as HeldPassed}
 use Rattle.desk.specs.Run.{Run}
@@ -35,6 +38,11 @@ passed_of ran ram out =
       out = out;
       stop = ran.stop;
     }
+
+-- what comes of a field: of a start that is refused no words
+abbrev pub answer_in : Result Answer Refusal → Answer
+answer_in (Ok answer) = answer
+answer_in (Err refusal) = Gave None
 
 -- ---- what a field brings that was read
 

@@ -6,6 +6,7 @@ use mathlib.Core.List.{List, [], ◌∷◌}
 use Prim.Native.Nat.{ℕ, ◌≤◌}
 use native.Mathlib.Omega.{arith}
 use lib.Dec.{eqb}
+use Rattle.std.proofs.Common.{Option, Some, None}
 use Rattle.rules.proofs.Choices.{by_test}
 use Rattle.rules.proofs.Clash.{clash}
 use Rattle.bus.specs.declared.word.Word.{Word}
@@ -23,11 +24,7 @@ use Rattle.exchange.specs.Judge.{
   word_heard,
   on_word,
 }
-use Rattle.controller.specs.declared.state.Progress.{Progress}
-use Rattle.controller.specs.declared.state.Progress.TheVariants.{Given, Back}
 use Rattle.controller.specs.declared.state.OpenMessage.{OpenMessage}
-use Rattle.controller.specs.declared.state.Message.{Message}
-use Rattle.controller.specs.declared.state.Message.TheVariants.{Idle, Open}
 use Rattle.controller.specs.Control.{line_in}
 use Rattle.controller.specs.State.{Desk, is_idle, with_message}
 use Rattle.controller.specs.Heard.{
@@ -47,14 +44,14 @@ awaits Reply = 2
 awaits AwaitingLast = 1
 awaits Ended = 1
 
-abbrev pub silences : Progress → ℕ
-silences Given = 3
-silences (Back exchange) = awaits exchange.stage
+abbrev pub silences : Option Exchange → ℕ
+silences None = 3
+silences (Some exchange) = awaits exchange.stage
 
 -- the message is over, or is open on the line and ends after so many silences
 pub data Late (line : Bool) (most : ℕ) (now : Desk) : Type 0 where
   over : is_idle now.state.message ≡ true → Late line most now
-  going : (message : OpenMessage) → now.state.message ≡ Open message
+  going : (message : OpenMessage) → now.state.message ≡ Some message
       → line_in now.state.control ≡ line → silences message.progress ≤ most
       → Late line most now
 
@@ -68,9 +65,9 @@ none_left line now (going message is on_line few) = absurd (some message.progres
     later AwaitingLast few = omega arith
     later Ended few = omega arith
 
-    some : (progress : Progress) → silences progress ≤ 0 → ⊥
-    some Given few = omega arith
-    some (Back exchange) few = later exchange.stage few
+    some : (progress : Option Exchange) → silences progress ≤ 0 → ⊥
+    some None few = omega arith
+    some (Some exchange) few = later exchange.stage few
 
 -- ---- a word
 
@@ -114,40 +111,38 @@ module _ {line : Bool} {most : ℕ} (now : Desk) (word : Word)
     (on_line : line_in now.state.control ≡ line) where
   done_late : (act : WordAct) (message : OpenMessage) → Within most act
       → Late line most (word_done act message word now).desk
-  unfolding word_done ended with_message
+  unfolding ended with_message
   done_late (heard.Fault code) message few = over refl
   done_late (Take cell exchange) message few = going _ refl on_line few
 
-  in_late : (progress : Progress) (message : OpenMessage) → silences progress ≤ most
+  in_late : (progress : Option Exchange) (message : OpenMessage) → silences progress ≤ most
       → Late line most (word_done (word_in progress message.order word) message word now).desk
-  in_late Given message few =
+  in_late None message few =
       by_test (λ act. Late line most (word_done act message word now).desk) (not word.sound)
       (λ _. done_late (heard.Fault 1) message tt) (λ _. done_late (heard.Fault 7) message tt)
-  in_late (Back exchange) message few =
+  in_late (Some exchange) message few =
       done_late _ message (on_word_within most message.order exchange word few)
 
-  met_late : (message : OpenMessage) → now.state.message ≡ Open message
+  met_late : (message : OpenMessage) → now.state.message ≡ Some message
       → silences message.progress ≤ most
-      → Late line most (word_met (Open message) word now).desk
-  unfolding word_met
+      → Late line most (word_met (Some message) word now).desk
   met_late message is few =
       by_test (λ (any : Heard). Late line most any.desk)
       (beq word.line (line_in now.state.control))
       (λ _. in_late message.progress message few) (λ _. going message is on_line few)
 
-idle_late : {line : Bool} {most : ℕ} (message : Message) (word : Word) (now : Desk)
+idle_late : {line : Bool} {most : ℕ} (message : Option OpenMessage) (word : Word) (now : Desk)
     → is_idle message ≡ true → now.state.message ≡ message
     → Late line most (word_met message word now).desk
-unfolding word_met
-idle_late Idle word now is same = over (rw same)
-idle_late (Open message) word now is same = absurd (clash (cc))
+idle_late None word now is same = over (rw same)
+idle_late (Some message) word now is same = absurd (clash (cc))
 
 word_late : {line : Bool} {most : ℕ} (word : Word) (now : Desk) → Late line most now
     → Late line most (word_step word now).desk
 unfolding word_step
 word_late word now (over is) = idle_late now.state.message word now is refl
 word_late {line} {most} word now (going message is on_line few) =
-    subst (λ (any : Message). Late line most (word_met any word now).desk) (sym is)
+    subst (λ (any : Option OpenMessage). Late line most (word_met any word now).desk) (sym is)
     (met_late now word on_line message is few)
 
 pub words_late : {line : Bool} {most : ℕ} (words : List Word) (now : Desk) → Late line most now

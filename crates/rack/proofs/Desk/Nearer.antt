@@ -5,6 +5,7 @@ use mathlib.Core.Bool.{Bool, true}
 use Prim.Native.Nat.{ℕ, suc, ◌≤◌}
 use native.Mathlib.Omega.{arith}
 use lib.Dec.{ltb}
+use Rattle.std.proofs.Common.{Option, Some, None}
 use Rattle.rules.proofs.Cases.{beq_same}
 use Rattle.rules.proofs.Choices.{by_test}
 use Rattle.rules.proofs.Clash.{clash}
@@ -16,11 +17,7 @@ use Rattle.exchange.specs.declared.judge.SilenceAct.{SilenceAct}
 use Rattle.exchange.specs.declared.judge.SilenceAct.TheVariants.{Fault, GoOn, End}
 use Rattle.exchange.specs.Order.{format_for}
 use Rattle.exchange.specs.Judge.{silence_heard}
-use Rattle.controller.specs.declared.state.Progress.{Progress}
-use Rattle.controller.specs.declared.state.Progress.TheVariants.{Given, Back}
 use Rattle.controller.specs.declared.state.OpenMessage.{OpenMessage}
-use Rattle.controller.specs.declared.state.Message.{Message}
-use Rattle.controller.specs.declared.state.Message.TheVariants.{Idle, Open}
 use Rattle.controller.specs.Control.{line_in}
 use Rattle.controller.specs.State.{Desk, is_idle, with_message}
 use Rattle.controller.specs.Start.{with_order}
@@ -54,32 +51,30 @@ module _ (most : ℕ) (order : Order) where
   silence_within AwaitingLast exchange few = tt
   silence_within Ended exchange few = tt
 
-  in_within : (progress : Progress) → silences progress ≤ suc most
+  in_within : (progress : Option Exchange) → silences progress ≤ suc most
       → Within most (silence_in progress order)
-  in_within Given few =
+  in_within None few =
       by_test (Within most) (format_for order).status (λ _. omega arith) (λ _. tt)
-  in_within (Back exchange) few = silence_within exchange.stage exchange few
+  in_within (Some exchange) few = silence_within exchange.stage exchange few
 
 done_late : {line : Bool} {most : ℕ} (now : Desk) → line_in now.state.control ≡ line
     → (act : SilenceAct) (message : OpenMessage) → Within most act
     → Late line most (silence_done act message now).desk
-unfolding silence_done ended with_message
+unfolding ended with_message
 done_late now on_line (Fault code) message few = over refl
 done_late now on_line (GoOn exchange) message few = going _ refl on_line few
 done_late now on_line End message few = over refl
 
-idle_late : {line : Bool} {most : ℕ} (message : Message) (on : Bool) (now : Desk)
+idle_late : {line : Bool} {most : ℕ} (message : Option OpenMessage) (on : Bool) (now : Desk)
     → is_idle message ≡ true → now.state.message ≡ message
     → Late line most (silence_met message on now).desk
-unfolding silence_met
-idle_late Idle on now is same = over (rw same)
-idle_late (Open message) on now is same = absurd (clash (cc))
+idle_late None on now is same = over (rw same)
+idle_late (Some message) on now is same = absurd (clash (cc))
 
 met_late : (most : ℕ) (now : Desk) (message : OpenMessage)
     → silences message.progress ≤ suc most
     → Late (line_in now.state.control) most
-    (silence_met (Open message) (line_in now.state.control) now).desk
-unfolding silence_met
+    (silence_met (Some message) (line_in now.state.control) now).desk
 met_late most now message few =
     rw (beq_same (line_in now.state.control))
     (done_late now refl (silence_in message.progress message.order) message
@@ -91,7 +86,7 @@ unfolding silence_step
 silence_late line most now (over is) = idle_late now.state.message line now is refl
 silence_late line most now (going message is on_line few) =
     subst (λ (any : Bool). Late any most (silence_met now.state.message any now).desk) on_line
-    (subst (λ (any : Message). Late (line_in now.state.control) most
+    (subst (λ (any : Option OpenMessage). Late (line_in now.state.control) most
     (silence_met any (line_in now.state.control) now).desk) (sym is)
     (met_late most now message few))
 

@@ -6,16 +6,14 @@ use Prim.Native.Nat.{ℕ, ◌≤◌}
 use native.Mathlib.Omega.{arith}
 use lib.ListN.{length}
 use borrow.Author.Tests.{eqb-true}
+use Rattle.std.proofs.Common.{Option, Some, None}
 use Rattle.rules.proofs.Clash.{clash}
 use Rattle.card.specs.Memory.{block_cells, the_cell, word_address, cell_at}
 use Rattle.formats.specs.declared.code.Coded.{Coded}
-use Rattle.formats.specs.declared.code.Coded.TheVariants.{Format, Lacking}
 use Rattle.formats.specs.Code.{coded_by}
 use Rattle.exchange.specs.declared.order.Order.{Order}
-use Rattle.controller.specs.declared.state.Message.{Message}
-use Rattle.controller.specs.declared.state.Message.TheVariants.{Idle, Open}
+use Rattle.controller.specs.declared.state.OpenMessage.{OpenMessage}
 use Rattle.controller.specs.declared.start.Given.{Given}
-use Rattle.controller.specs.declared.start.Given.TheVariants.{Nothing, Words}
 use Rattle.controller.specs.Control.{block_in, code_in}
 use Rattle.controller.specs.State.{Desk, desk, desk_words}
 use Rattle.controller.specs.Start.{
@@ -48,44 +46,43 @@ desk_block_in_memory old started = omega (arith, started.whole)
 -- ---- by the answer of a start
 
 -- whether it gives words, and the order that it opens
-abbrev gives : Given → ℕ
-gives Nothing = 0
-gives (Words block count) = 1
+abbrev gives : Option Given → ℕ
+gives None = 0
+gives (Some words) = 1
 
-abbrev order_of : Order → Message → Order
-order_of other Idle = other
-order_of other (Open message) = message.order
+abbrev order_of : Order → Option OpenMessage → Order
+order_of other None = other
+order_of other (Some message) = message.order
 
 module _ (order : Order) (old : Desk) where
   abbrev answered : Started
   answered = starting order old
 
-  nothing_given : (refusal : ℕ) → started_as refusal Nothing old ≡ answered → ⊥
-  unfolding starting
+  nothing_given : (refusal : ℕ) → started_as refusal None old ≡ answered → ⊥
   nothing_given refusal same = clash (ap (λ (any : Started). gives any.given) same)
 
-  by_code : (coded : Coded) → length old.ram ≡ desk_words → starting_by coded old ≡ answered
+  by_code : (coded : Option Coded) → length old.ram ≡ desk_words → starting_by coded old ≡ answered
       → Starts order old
-  unfolding starting_by starting with_order
-  by_code (Format row broadcast) whole same =
-      let is : order_in row broadcast old ≡ order =
+  unfolding with_order
+  by_code (Some coded) whole same =
+      let is : order_in coded.row coded.broadcast old ≡ order =
       ap (λ (any : Started). order_of order any.desk.state.message) same in
       record {
         whole = whole;
         first = sym (ap (λ (any : Order). any.first) is);
         second = sym (ap (λ (any : Order). any.second) is);
       }
-  by_code Lacking whole same = absurd (nothing_given 14 same)
+  by_code None whole same = absurd (nothing_given 14 same)
 
   by_turn : (may : Bool) → length old.ram ≡ desk_words
-      → cond may (starting_by (coded_by (code_in old.state.control)) old) (started_as 0 Nothing old)
+      → cond may (starting_by (coded_by (code_in old.state.control)) old) (started_as 0 None old)
       ≡ answered
       → Starts order old
   by_turn true whole same = by_code (coded_by (code_in old.state.control)) whole same
   by_turn false whole same = absurd (nothing_given 0 same)
 
   by_memory_lem : (whole : Bool) → whole_desk old ≡ whole
-      → cond (not whole) (started_as 1 Nothing old) (start_step old) ≡ answered
+      → cond (not whole) (started_as 1 None old) (start_step old) ≡ answered
       → Starts order old
   unfolding start_step
   by_memory_lem true whole same =

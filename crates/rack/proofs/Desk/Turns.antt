@@ -1,6 +1,7 @@
 -- The turns of the controller in a message without a fault: behind the words given a status is due
 -- or the message is over; an answer is stored behind them; it ends with code 0. For every row.
 -- Assumes nothing.
+use Rattle.std.proofs.Common.{None}
 use mathlib.Core.Path.{◌≡◌, refl, ap, ◌∙◌}
 use mathlib.Core.Bool.{Bool, true, false, cond, ◌||◌}
 use mathlib.Core.List.{List, [], ◌∷◌}
@@ -8,11 +9,11 @@ use Prim.Native.Nat.{ℕ}
 use native.Mathlib.Omega.{arith}
 use lib.ListN.{length}
 use borrow.Author.Tests.{le-ltb}
+use Rattle.std.proofs.Common.{Some, None}
 use Rattle.rules.proofs.Cases.{beq_same}
 use Rattle.bus.specs.Command.{address_of}
 use Rattle.card.specs.declared.place.Block.{Block}
 use Rattle.card.specs.Memory.{the_cell, with_cell, with_cells}
-use Rattle.message.specs.declared.state.Second.TheVariants.{Absent}
 use Rattle.formats.specs.Row.{status_cell, last_cell}
 use Rattle.exchange.specs.declared.order.Order.{Order}
 use Rattle.exchange.specs.declared.state.Stage.TheVariants.{Awaiting, Reply, AwaitingLast, Ended}
@@ -20,11 +21,10 @@ use Rattle.exchange.specs.declared.state.Exchange.{Exchange}
 use Rattle.exchange.specs.declared.judge.SilenceAct.TheVariants.{GoOn, End}
 use Rattle.exchange.specs.Order.{format_for, awaited, awaited_last}
 use Rattle.exchange.specs.Judge.{exchange_of, at_first, is_marked, silence_heard}
-use Rattle.controller.specs.declared.state.Progress.TheVariants.{Given as GivenStage, Back}
 use Rattle.controller.specs.Control.{block_in, line_in}
 use Rattle.controller.specs.State.{Desk, with_message}
 use Rattle.controller.specs.Start.{with_order}
-use Rattle.controller.specs.Heard.{words_step, ended, silence_done, silence_met, silence_step}
+use Rattle.controller.specs.Heard.{words_step, ended, silence_done, silence_step}
 use Rattle.rack.specs.Segment.{Segment, segment, Given, Said, data_words, at_desk}
 use Rattle.rack.specs.Hearing.{Stamps, desk_turn}
 use Rattle.rack.proofs.Desk.Starting.{open_desk}
@@ -41,7 +41,7 @@ module _ (start : Desk) (order : Order) (taken : ℕ) (mark : Bool) (ram : List 
       → (silence_step (line_in start.state.control) (at (exchange_of Reply taken mark))).desk
       ≡ cond (format_for order).last (at (exchange_of AwaitingLast taken mark))
       (ended 0 mark (at (exchange_of Reply taken mark))).desk
-  unfolding silence_step silence_met silence_done silence_heard with_message
+  unfolding silence_step silence_heard with_message
   full_silence full =
       rw (
         beq_same (line_in start.state.control),
@@ -51,7 +51,7 @@ module _ (start : Desk) (order : Order) (taken : ℕ) (mark : Bool) (ram : List 
     where
       by_last : (last : Bool)
           → (silence_done (cond last (GoOn (exchange_of AwaitingLast taken mark)) End)
-          (record { order = order; progress = Back (exchange_of Reply taken mark) })
+          (record { order = order; progress = Some (exchange_of Reply taken mark) })
           (at (exchange_of Reply taken mark))).desk
           ≡ cond last (at (exchange_of AwaitingLast taken mark))
           (ended 0 mark (at (exchange_of Reply taken mark))).desk
@@ -61,7 +61,7 @@ module _ (start : Desk) (order : Order) (taken : ℕ) (mark : Bool) (ram : List 
   last_silence :
       (silence_step (line_in start.state.control) (at (exchange_of Ended taken mark))).desk
       ≡ (ended 0 mark (at (exchange_of Ended taken mark))).desk
-  unfolding silence_step silence_met silence_done silence_heard with_message
+  unfolding silence_step silence_heard with_message
   last_silence = rw (beq_same (line_in start.state.control))
 
 -- ---- turns
@@ -70,13 +70,13 @@ module _ (order : Order) (old : Desk) where
   first_silence : (silence_step (line_in old.state.control) (open_desk order old)).desk
       ≡ cond (format_for order).status (back_at (open_desk order old) order at_first old.ram)
       (ended 0 false (open_desk order old)).desk
-  unfolding silence_step silence_met silence_done with_order with_message
+  unfolding silence_step with_order with_message
   first_silence =
       rw (beq_same (line_in old.state.control)) (by_status (format_for order).status)
     where
       by_status : (status : Bool)
           → (silence_done (cond status (GoOn at_first) End)
-          (record { order = order; progress = GivenStage }) (open_desk order old)).desk
+          (record { order = order; progress = None }) (open_desk order old)).desk
           ≡ cond status (back_at (open_desk order old) order at_first old.ram)
           (ended 0 false (open_desk order old)).desk
       by_status true = refl
@@ -104,7 +104,7 @@ module _ (start : Desk) (order : Order) (stamps : Stamps) (speaker status : ℕ)
   -- of the only answer, or of the first one of two
   pub answer_turn : (words : List ℕ)
       → address_of status ≡ awaited order → length words ≡ (format_for order).reply
-      → desk_turn line stamps (Said speaker (segment status Absent words))
+      → desk_turn line stamps (Said speaker (segment status None words))
       (back_at start order (exchange_of Awaiting 0 mark) ram)
       ≡ cond (format_for order).last
       (back_at start order (exchange_of AwaitingLast (length words) marked)
@@ -120,7 +120,7 @@ module _ (start : Desk) (order : Order) (stamps : Stamps) (speaker status : ℕ)
 
   -- of the second answer of two
   pub last_turn : (taken : ℕ) → address_of status ≡ awaited_last order
-      → desk_turn line stamps (Said speaker (segment status Absent []))
+      → desk_turn line stamps (Said speaker (segment status None []))
       (back_at start order (exchange_of AwaitingLast taken mark) ram)
       ≡ (ended 0 marked (back_at start order (exchange_of Ended taken marked)
       (with_cell ram block (the_cell (last_cell (format_for order))) status))).desk

@@ -3,10 +3,10 @@ use mathlib.Core.Path.{◌≡◌, refl}
 use mathlib.Core.Bool.{Bool, true, false, ◌&&◌}
 use mathlib.Core.List.{List, ◌++◌}
 use Prim.Native.Nat.{ℕ, suc}
+use Rattle.std.proofs.Common.{Option, Some, None}
 use Rattle.rules.proofs.Halves.{first_of_both}
 use Rattle.rules.proofs.Clash.{clash}
-use Rattle.controller.specs.declared.state.Message.{Message}
-use Rattle.controller.specs.declared.state.Message.TheVariants.{Idle, Open}
+use Rattle.controller.specs.declared.state.OpenMessage.{OpenMessage}
 use Rattle.controller.specs.State.{is_idle}
 use Rattle.rack.specs.Segment.{Spoken}
 use Rattle.rack.specs.Hearing.{Stamps}
@@ -29,9 +29,9 @@ pub record Comes (turns : ℕ) (line : Bool) (clock : ℕ → Stamps) (waiting :
   pub ends : ends_within turns line clock waiting old ≡ true
   pub idle : AllIdle (carry turns line clock waiting old)
 
-idle_so : (message : Message) → is_idle message ≡ true → message ≡ Idle
-idle_so Idle is = refl
-idle_so (Open message) is = absurd (clash (cc))
+idle_so : (message : Option OpenMessage) → is_idle message ≡ true → message ≡ None
+idle_so None is = refl
+idle_so (Some message) is = absurd (clash (cc))
 
 module _ (more : ℕ) (line : Bool) (clock : ℕ → Stamps) (waiting : List Spoken) (old : Rack) where
   abbrev pub behind_turn : Rack

@@ -36,7 +36,7 @@ module _ (order : Order) (clock : ℕ → Stamps) (old : Rack)
       → message_ends_within turns clock old
       ≡ ends_within turns line clock (Given (given_segment order old.desk) ∷ [])
       (rack (open_desk order old.desk) old.terminals)
-  unfolding starting with_order
+  unfolding with_order
   begins turns =
       ap (λ (any : Started). ends_within turns line clock
       (said_at_start any.given any.desk.state.message old.desk.ram)

@@ -4,8 +4,8 @@ use mathlib.Core.Path.{◌≡◌, ap, ◌∙◌}
 use mathlib.Core.Bool.{Bool, true, false, ◌&&◌}
 use mathlib.Core.List.{List, [], ◌∷◌}
 use Prim.Native.Nat.{ℕ, suc, ◌-◌}
+use Rattle.std.proofs.Common.{None}
 use Rattle.exchange.specs.declared.order.Order.{Order}
-use Rattle.controller.specs.declared.start.Given.TheVariants.{Nothing}
 use Rattle.controller.specs.Control.{line_in}
 use Rattle.controller.specs.State.{Desk, is_idle}
 use Rattle.controller.specs.Start.{Started, with_order, starting}
@@ -64,7 +64,7 @@ pub message_begins : (order : Order) (clock : ℕ → Stamps) (old : Rack)
     ≡ carry most_turns (line_in old.desk.state.control) clock
     (Given (given_segment order old.desk) ∷ [])
     (rack (open_desk order old.desk) old.terminals)
-unfolding message begun starting with_order
+unfolding message begun with_order
 message_begins order clock old starts =
     ap (λ (any : Started). begun clock any old) starts
     ∙ ap (λ (any : Segment). carry most_turns (line_in old.desk.state.control) clock
@@ -72,7 +72,7 @@ message_begins order clock old starts =
     (segment_given order old.desk (starts_from_cells order old.desk starts))
 
 -- where nothing is given, nothing changes
-pub nothing_begins : (clock : ℕ → Stamps) (old : Rack) → (start_action old.desk).given ≡ Nothing
+pub nothing_begins : (clock : ℕ → Stamps) (old : Rack) → (start_action old.desk).given ≡ None
     → message clock old ≡ old
 unfolding message begun
 nothing_begins clock old none = rw none

@@ -1,11 +1,12 @@
 -- The cells that may change, one kind left out at a time: data cells, cells 58 to 61, the link.
 -- Each claim is false; with all three it is the theorem. Assumes nothing.
+use Rattle.std.proofs.Common.{None, Option, Some}
 use mathlib.Core.Path.{◌≡◌, refl}
 use mathlib.Core.Bool.{Bool, true, false}
 use mathlib.Core.List.{List, [], ◌∷◌}
-use mathlib.Core.Option.{Option, some, none}
 use Prim.Native.Nat.{ℕ, ◌≤◌, ◌<◌}
 use native.Mathlib.Omega.{arith}
+use Rattle.std.proofs.Common.{Option, Some, None}
 use Rattle.rules.proofs.Clash.{clash}
 use Rattle.card.specs.declared.place.Block.{Block}
 use Rattle.card.specs.declared.place.Cell.{Cell}
@@ -42,8 +43,8 @@ data May (words service link : Bool) (asks : Row) (block table : Block) (address
       → May words service link asks block table address
 
 abbrev Changes : Bool → Bool → Bool → Option ℕ → Card → Card → Type 0
-Changes words service link none old new = Unit {0}
-Changes words service link (some command) old new =
+Changes words service link None old new = Unit {0}
+Changes words service link (Some command) old new =
     WritesOnly (May words service link (asked_of command) (opened_for command old).block
     (opened_for command old).table) old.ram new.ram
 
@@ -75,8 +76,8 @@ the_theorem_has_the_claim theorem order clock old asked =
     so : (command : Option ℕ) (before after : Card)
         → Served order old.desk (message clock old).desk.ram command before after
         → Changes true true true command before after
-    so none before after served = tt
-    so (some command) before after served =
+    so None before after served = tt
+    so (Some command) before after served =
         record {
           same_length = served.2.same_length;
           same_else = λ address else. served.2.same_else address (λ may. else (may_be may));

@@ -1,10 +1,11 @@
 -- The claim that both ends hold the same, by what is asked, so that one thing can be left out at a
 -- time; with all of it, it is the theorem. Assumes nothing.
+use Rattle.std.proofs.Common.{None, Option, Some}
 use mathlib.Core.Path.{◌≡◌}
 use mathlib.Core.Bool.{Bool}
 use mathlib.Core.List.{List, [], ◌∷◌}
-use mathlib.Core.Option.{Option, some, none}
 use Prim.Native.Nat.{ℕ}
+use Rattle.std.proofs.Common.{Option, Some, None}
 use Rattle.terminal.specs.State.{Card}
 use Rattle.exchange.specs.declared.order.Order.{Order}
 use Rattle.controller.specs.Control.{line_in}
@@ -27,8 +28,8 @@ AllThere order terminals = AllAddressed order.row order.first order.second termi
 
 -- of a terminal that takes a command
 abbrev pub WhereTaken : (Bool → ℕ → Card → Type 0) → Bool → Option ℕ → Card → Type 0
-WhereTaken Prepared line none terminal = Unit {0}
-WhereTaken Prepared line (some command) terminal = Prepared line command terminal
+WhereTaken Prepared line None terminal = Unit {0}
+WhereTaken Prepared line (Some command) terminal = Prepared line command terminal
 
 pub record AskedBy (Begins : Order → Desk → Type 0) (Fit : Order → Type 0)
     (There : Order → List Card → Type 0) (Apart : List Card → Type 0) (Rests : Card → Type 0)
@@ -93,13 +94,13 @@ each_so so (Each.each first others) = Each.each (so _ first) (each_so so others)
 
 ready_is_prepared : (line : Bool) (command : Option ℕ) (terminal : Card)
     → WhereTaken Ready line command terminal → ReadyFor line command terminal
-ready_is_prepared line none terminal prepared = tt
-ready_is_prepared line (some command) terminal prepared = prepared
+ready_is_prepared line None terminal prepared = tt
+ready_is_prepared line (Some command) terminal prepared = prepared
 
 prepared_is_ready : (line : Bool) (command : Option ℕ) (terminal : Card)
     → ReadyFor line command terminal → WhereTaken Ready line command terminal
-prepared_is_ready line none terminal ready = tt
-prepared_is_ready line (some command) terminal ready = ready
+prepared_is_ready line None terminal ready = tt
+prepared_is_ready line (Some command) terminal ready = ready
 
 the_theorem_is_the_claim : BothEndsHoldTheSame
     → Claim Starts FitOrder AllThere Different IsIdle Ready

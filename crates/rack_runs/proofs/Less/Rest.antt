@@ -1,5 +1,6 @@
 -- Terminals that are not idle: a message open, a strange status remembered, a memory that is not
 -- whole, a state that is not fit. Each claim is false. Assumes nothing.
+use Rattle.std.proofs.Common.{None, Some}
 use mathlib.Core.Path.{◌≡◌, refl, ap}
 use mathlib.Core.Bool.{Bool, true, false}
 use mathlib.Core.List.{[], ◌∷◌}
@@ -10,7 +11,6 @@ use Rattle.rules.proofs.Clash.{clash}
 use Rattle.card.specs.Memory.{card_words, the_block}
 use Rattle.queue.specs.Queue.{empty_queue}
 use Rattle.message.specs.declared.state.OpenMessage.{OpenMessage}
-use Rattle.message.specs.declared.state.Message.TheVariants.{Idle, Open}
 use Rattle.terminal.specs.State.{Card, card, with_status, core_at_setup}
 use Rattle.terminal.specs.Event.{word}
 use Rattle.terminal.specs.Machine.{step}
@@ -19,8 +19,7 @@ use Rattle.terminal_laws.specs.AtRest.{WholeAndFit, AtRest}
 use Rattle.terminal_laws.specs.OwnStatus.{OwnStatus}
 use Rattle.formats.specs.declared.row.Row.TheVariants.{ToTerminal, FromTerminal, ModeAlone}
 use Rattle.exchange.specs.declared.order.Order.{Order}
-use Rattle.controller.specs.declared.state.Result.TheVariants.{Came}
-use Rattle.controller.specs.State.{Desk}
+use Rattle.controller.specs.State.{came, Desk}
 use Rattle.controller.specs.Start.{order_in}
 use Rattle.rack.specs.Segment.{command_word}
 use Rattle.rack.specs.Bus.{rack, message}
@@ -69,7 +68,7 @@ begins = starts_by ToTerminal false to_five refl refl refl
 
 -- ---- a message may be open
 
-idle_is_not_open : {message : OpenMessage} → Idle ≡ Open message → ⊥
+idle_is_not_open : {message : OpenMessage} → None ≡ Some message → ⊥
 idle_is_not_open same = clash (cc)
 
 record EvenOpen (terminal : Card) : Type 0 where
@@ -99,7 +98,7 @@ unfoldable open_five : Card
 open_five = (step (word (command_word false false 0x2862 0)) five).card
 
 its_own_command_supersedes :
-    (message clock (rack to_five (open_five ∷ []))).desk.state.result ≡ Came 0 false
+    (message clock (rack to_five (open_five ∷ []))).desk.state.result ≡ came 0 false
 unfolding told open_five
 its_own_command_supersedes = refl
 
@@ -130,7 +129,7 @@ a_strange_status_would_be_taken claim =
 
 record AnyMemory (terminal : Card) : Type 0 where
   fit : fit_card terminal ≡ true
-  idle : terminal.core.message ≡ Idle
+  idle : terminal.core.message ≡ None
   status : OwnStatus terminal.core
 
 -- a card of four blocks sends no words
@@ -156,7 +155,7 @@ a_memory_that_is_not_whole_would_send claim =
 
 record AnyState (terminal : Card) : Type 0 where
   whole_memory : length terminal.ram ≡ card_words
-  idle : terminal.core.message ≡ Idle
+  idle : terminal.core.message ≡ None
   status : OwnStatus terminal.core
 
 -- flags go up to 63

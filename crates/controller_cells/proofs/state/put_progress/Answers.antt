@@ -4,8 +4,8 @@ use Rattle.shown.proofs.TextLaws.{fits_then}
 use Rattle.controller_cells.proofs.StateLaws.{progress_given, progress_back}
 use Rattle.controller_cells.proofs.state.put_progress.Goals as goal
 
-pub returns-in-Given : goal.returns-in-Given
-returns-in-Given c = search (rules, progress_given)
+pub returns-in-None : goal.returns-in-None
+returns-in-None c = search (rules, progress_given)
 
-pub returns-in-Back : goal.returns-in-Back
-returns-in-Back c = search (rules, progress_back, fits_then)
+pub returns-in-Some : goal.returns-in-Some
+returns-in-Some c = search (rules, progress_back, fits_then)

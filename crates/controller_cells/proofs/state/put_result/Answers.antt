@@ -4,8 +4,8 @@ use Rattle.shown.proofs.TextLaws.{fits_then}
 use Rattle.controller_cells.proofs.StateLaws.{result_none, result_came}
 use Rattle.controller_cells.proofs.state.put_result.Goals as goal
 
-pub returns-in-Absent : goal.returns-in-Absent
-returns-in-Absent c = search (rules, result_none)
+pub returns-in-None : goal.returns-in-None
+returns-in-None c = search (rules, result_none)
 
-pub returns-in-Came : goal.returns-in-Came
-returns-in-Came c = search (rules, result_came, fits_then)
+pub returns-in-Some : goal.returns-in-Some
+returns-in-Some c = search (rules, result_came, fits_then)

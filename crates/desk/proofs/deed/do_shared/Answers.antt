@@ -1,25 +1,22 @@
--- `desk::deed::do_shared` meets its contract: a law for each kind of field. Assumes nothing.
-use Rattle.std.proofs.Common.{rules}
-use Rattle.desk.proofs.DeedLaws.{shared_deeds}
+-- `desk::deed::do_shared`: the words of a write are those that its field names. Assumes nothing.
+use Rattle.std.proofs.Common.{◌≡◌}
+use Rattle.recording.specs.declared.field.Field.TheVariants.{HostWrite}
+use Rattle.recording.specs.Value.{valued_at}
+use Rattle.recording.proofs.WordsLaws.{words_written}
+use Rattle.desk.specs.declared.field.Field.TheVariants.{Shared}
+use Rattle.desk.specs.Deed.{shared_deed}
 use Rattle.desk.proofs.deed.do_shared.Goals as goal
 
-pub returns-in-Setup : goal.returns-in-Setup
-returns-in-Setup c = search (rules, shared_deeds) depth 9
-
-pub returns-in-Word : goal.returns-in-Word
-returns-in-Word c = search (rules, shared_deeds) depth 9
-
-pub returns-in-Silence : goal.returns-in-Silence
-returns-in-Silence c = search (rules, shared_deeds) depth 9
-
-pub returns-in-ReadQueue : goal.returns-in-ReadQueue
-returns-in-ReadQueue c = search (rules, shared_deeds) depth 9
-
 pub returns-in-HostWrite : goal.returns-in-HostWrite
-returns-in-HostWrite c = search (rules, shared_deeds) depth 9
-
-pub returns-in-MoveTable : goal.returns-in-MoveTable
-returns-in-MoveTable c = search (rules, shared_deeds) depth 9
-
-pub returns-in-SetFlags : goal.returns-in-SetFlags
-returns-in-SetFlags c = search (rules, shared_deeds) depth 9
+unfolding shared_deed valued_at
+returns-in-HostWrite c =
+    let is = c.in-HostWrite in
+    let named : Shared c.args.field ≡ Shared (HostWrite is.address is.first is.count) =
+    rw is.is in
+    rw (
+      is.is,
+      c.write_words.ensures,
+      words_written c.args.ram.now c.args.window.now is.address is.first is.count
+          (c.requires.few is.address is.first is.count named)
+          (c.requires.there is.address is.first is.count named),
+    )

@@ -3,8 +3,8 @@ use Rattle.std.proofs.Common.{rules}
 use Rattle.desk.proofs.LineLaws.{given_lines}
 use Rattle.desk.proofs.print.put_given.Goals as goal
 
-pub returns-in-Nothing : goal.returns-in-Nothing
-returns-in-Nothing c = search (rules, given_lines)
+pub returns-in-None : goal.returns-in-None
+returns-in-None c = search (rules, given_lines)
 
-pub returns-in-Words : goal.returns-in-Words
-returns-in-Words c = search (rules, given_lines)
+pub returns-in-Some : goal.returns-in-Some
+returns-in-Some c = search (rules, given_lines)

@@ -3,8 +3,8 @@ use Rattle.std.proofs.Common.{rules}
 use Rattle.desk.proofs.LineLaws.{result_lines}
 use Rattle.desk.proofs.print.put_result.Goals as goal
 
-pub returns-in-Absent : goal.returns-in-Absent
-returns-in-Absent c = search (rules, result_lines)
+pub returns-in-None : goal.returns-in-None
+returns-in-None c = search (rules, result_lines)
 
-pub returns-in-Came : goal.returns-in-Came
-returns-in-Came c = search (rules, result_lines)
+pub returns-in-Some : goal.returns-in-Some
+returns-in-Some c = search (rules, result_lines)

@@ -3,8 +3,8 @@ use Rattle.std.proofs.Common.{rules}
 use Rattle.desk.proofs.RowTurns.{none_taken, words_fit, row_taken_lem}
 use Rattle.desk.proofs.row.take_row.Goals as goal
 
-pub returns-then-next-eq0 : goal.returns-then-next-eq0
-returns-then-next-eq0 c = search (rules, none_taken) depth 9
+pub returns-then-taken-eq0 : goal.returns-then-taken-eq0
+returns-then-taken-eq0 c = search (rules, none_taken) depth 9
 
 pub after_row-requires : goal.after_row-requires
 after_row-requires c = search (rules, words_fit) depth 9

@@ -5,11 +5,11 @@ use Rattle.desk.proofs.TurnLaws.{field_passes}
 use Rattle.desk.proofs.TakenLaws.{was_read}
 use Rattle.desk.proofs.window.take_field.Goals as goal
 
-pub do_field-deed-requires : goal.do_field-deed-requires
-do_field-deed-requires c = search (rules, was_read)
+pub do_field-done-requires : goal.do_field-done-requires
+do_field-done-requires c = search (rules, was_read)
 
-pub returns-then-deed-ne0 : goal.returns-then-deed-ne0
-returns-then-deed-ne0 c = search (rules, field_passes) depth 9
+pub returns-in-Err : goal.returns-in-Err
+returns-in-Err c = search (rules, field_passes) depth 9
 
 pub overflow_sub-size : goal.overflow_sub-size
 overflow_sub-size c = search (rules, was_read)

@@ -1,13 +1,23 @@
--- `exchange::state::Exchange::on_word` meets its contract. Assumes nothing.
-use borrow.Author.Rules.{rules}
-use Rattle.rules.proofs.Cases.{cases, turned}
-use Rattle.exchange.specs.Judge.{on_word}
+-- `exchange::state::Exchange::on_word`: no word of an answer stands above the highest cell, so the
+-- number of each can be counted. Assumes nothing.
+use Rattle.std.proofs.Common.{arith, ap, leb-false}
+use Rattle.formats.specs.Row.{last_cell}
+use Rattle.exchange.proofs.OrderLaws.{last_at_most}
 use Rattle.exchange.proofs.state.Exchange.on_word.Goals as goal
 
-pub returns-then-not-sound : goal.returns-then-not-sound
-unfolding on_word
-returns-then-not-sound c = search (rules, cases, turned)
+pub overflow_add-reply : goal.overflow_add-reply
+overflow_add-reply c =
+    omega (arith, last_at_most c.args.order, ap last_cell c.format-format.ensures)
 
-pub returns : goal.returns
-unfolding on_word
-returns c = search (rules, cases, turned)
+pub data_heard-requires : goal.data_heard-requires
+data_heard-requires c = λ due.
+    omega (
+      arith,
+      last_at_most c.args.order,
+      ap last_cell c.format-format.ensures,
+      leb-false c.format-format.result.reply c.args.self.taken due,
+    )
+
+pub overflow_add-reply-in-AwaitingLast : goal.overflow_add-reply-in-AwaitingLast
+overflow_add-reply-in-AwaitingLast c =
+    omega (arith, last_at_most c.args.order, ap last_cell c.format-format.ensures)
