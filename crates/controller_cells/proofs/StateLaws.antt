@@ -1,9 +1,8 @@
 -- The laws of `specs/State.antt`: the parts of the state's text in turn, as the code puts them.
 -- Assumes nothing.
 use mathlib.Core.Path.{◌≡◌, refl}
-use mathlib.Core.Bool.{Bool, true, false}
+use mathlib.Core.Bool.{true, false}
 use mathlib.Core.List.{◌++◌}
-use Prim.Native.Nat.{ℕ}
 use Rattle.std.proofs.Common.{Option, Some, None}
 use denote.Enum.Declared.{tag_of}
 use Rattle.formats.specs.contracts.row.Row.{the_type}

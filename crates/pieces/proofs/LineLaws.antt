@@ -2,9 +2,7 @@
 -- Assumes nothing.
 use mathlib.Core.Path.{◌≡◌}
 use mathlib.Core.Bool.{Bool, true, false, cond}
-use mathlib.Core.List.{List, []}
-use Prim.Native.Nat.{ℕ, ◌+◌, ◌-◌, ◌≤◌, ◌<◌}
-use native.Mathlib.Decide.{dec_le}
+use Prim.Native.Nat.{ℕ, ◌≤◌, ◌<◌}
 use native.Mathlib.Omega.{arith}
 use lib.Dec.{eqb}
 use lib.ListN.{length}
@@ -12,9 +10,8 @@ use borrow.Author.Tests.{ne_eqb}
 use Rattle.lines.specs.Lines.{end_line, refusal_line}
 use Rattle.lines.specs.Page.{Leaves, line_on}
 use Rattle.lines.specs.declared.Page.{Page}
-use Rattle.lines.specs.Written.{put, stored, line_room, line_written}
+use Rattle.lines.specs.Written.{line_room}
 use Rattle.lines.proofs.Lengths.{length_end_line, length_refusal_line}
-use Rattle.lines.proofs.WrittenLaws.{in_room, out_of_room}
 use Rattle.pieces.specs.LastLine.{last_line}
 
 -- ---- as it is printed
