@@ -113,8 +113,7 @@ module _ {old new : Page} where
   unfolding result_text
   result_came result came is fits = rw is fits
 
-  pub message_open : (message : Option OpenMessage) (held : OpenMessage)
-      → message ≡ Some held
+  pub message_open : (message : Option OpenMessage) (held : OpenMessage) → message ≡ Some held
       → Fits old (order_text held.order ++ progress_text held.progress) new
       → Fits old (message_text message) new
   unfolding message_text

@@ -1,7 +1,7 @@
 -- The laws of `specs/State.antt`: the parts of the state's text in turn, as the code puts them.
 -- Assumes nothing.
-use Rattle.std.proofs.Common.{None, Option, Some}
 use mathlib.Core.Path.{◌≡◌, refl}
+use Rattle.std.proofs.Common.{Option, Some, None}
 use mathlib.Core.Bool.{Bool, true, false}
 use mathlib.Core.List.{List, [], ◌∷◌, ◌++◌, append_assoc, append-nil}
 use Prim.Native.Nat.{ℕ, zero, suc, ◌+◌, ◌%◌}
@@ -93,20 +93,19 @@ module _ {old new : Page} where
   unfolding waiting_text
   waiting_none places ring none fits = rw none fits
 
-  pub state_none : (run : HeldTray) (places : List ℕ) → run.seen.setup ≡ false
+  pub state_none : (run : HeldTray) → run.seen.setup ≡ false
       → Fits old (bytes "terminal none\n") new
-      → Fits old (state_text run places) new
+      → Fits old (state_text run) new
   unfolding state_text
-  state_none run places is fits = rw is fits
+  state_none run is fits = rw is fits
 
-  pub state_some : (run : HeldTray) (places : List ℕ) → run.seen.setup ≡ true
-      → Fits old (terminal_text run.held places) new
-      → Fits old (state_text run places) new
+  pub state_some : (run : HeldTray) → run.seen.setup ≡ true
+      → Fits old (terminal_text run.core run.queue) new
+      → Fits old (state_text run) new
   unfolding state_text
-  state_some run places is fits = rw is fits
+  state_some run is fits = rw is fits
 
-  pub message_open : (message : Option OpenMessage) (held : OpenMessage)
-      → message ≡ Some held
+  pub message_open : (message : Option OpenMessage) (held : OpenMessage) → message ≡ Some held
       → Fits old (opening_text held ++ fixed_text held ++ progress_text held) new
       → Fits old (message_text message) new
   unfolding message_text
