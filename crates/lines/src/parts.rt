@@ -74,7 +74,8 @@ impl<'a> Page<'a> {
 
     // ---- decimal
 
-    // With so many places at the most: the tens, where there are any, then the last digit.
+    // With so many places at the most: the tens, where there are any, then the last digit. A
+    // recursion, as its definition is: a loop would need the digits of its own first.
     fn put_digits(&mut self, number: u64, places: usize)
         requires { self.old.at + places ≤ length self.old.out.now }
         ensures { Wrote places self.old (decimal_by places number) self.new }

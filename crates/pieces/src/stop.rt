@@ -43,7 +43,9 @@ fn put_last(page: &mut Page, number: u8, fields: u64, offset: u64)
 }
 
 // No field is taken, by the number of a refusal or 0 for the end of the bytes: more bytes are
-// needed or, where these are the last, the last line is printed.
+// needed or, where these are the last, the last line is printed. The place alone is given and
+// answered, since a call over a window keeps it beside the run. The number is any byte, no
+// `Refusal`: callers may name what they will.
 pub fn stop_at(
     out: &mut [u8],
     at: usize,

@@ -35,6 +35,7 @@ fn put_line(page: &mut Page, ram: &[u16], answer: Answer)
     }
 }
 
+// The place alone is given and answered, since a call over a window keeps it beside the run.
 pub(crate) fn put_answer(out: &mut [u8], at: usize, ram: &[u16], answer: Answer) -> usize
     ensures { put result out.new
         ≡ line_written out.old at (answer_line ram.now answer) }
