@@ -4,7 +4,7 @@ use Rattle.std.proofs.Common.{◌≡◌, ℕ, List, Option, Result, ap, ap₂}
 use Rattle.rules.proofs.Determined.{Determined, DeterminedAs, same}
 use Rattle.refusals.specs.declared.Refusal.{Refusal}
 use Rattle.refusals.specs.Number.{refused, outcome_in}
-use Rattle.refusals.proofs.NumberLaws.{same_answer}
+use Rattle.refusals.proofs.NumberLaws.{same_refusal, same_answer}
 use Rattle.controller.specs.declared.state.Came.{Came}
 use Rattle.controller.specs.declared.state.Controller.{Controller}
 use Rattle.controller.specs.declared.start.Given.{Given}

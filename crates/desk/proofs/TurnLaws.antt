@@ -1,37 +1,56 @@
 -- One field of a window, as the code takes it. Assumes nothing.
-use Rattle.std.proofs.Common.{◌≡◌, ℕ, ◌+◌, ◌-◌, eqb, List, refl, ap, ◌∙◌, eq-eqb, ne_eqb}
-use Rattle.std.specs.Prelude.{Some, None, Ok, Err}
+use Rattle.std.proofs.Common.{
+  ◌≡◌,
+  ◌≢◌,
+  ℕ,
+  ◌+◌,
+  ◌-◌,
+  eqb,
+  List,
+  Option,
+  Some,
+  None,
+  Result,
+  Ok,
+  Err,
+  sym,
+  refl,
+  ap,
+  ◌∙◌,
+  ne_eqb,
+}
 use Rattle.rules.proofs.Choices.{by_test}
+use Rattle.refusals.specs.declared.Refusal.{Refusal}
+use Rattle.refusals.specs.Number.{number_of, refused}
+use Rattle.refusals.proofs.NumberLaws.{some_refused}
 use Rattle.recording.specs.Value.{Valued, valued_at}
 use Rattle.recording.specs.Value as shared
 use Rattle.formats.specs.declared.code.Coded.{Coded}
-use Rattle.formats.specs.declared.code.Coded.TheVariants.{Format, Lacking}
 use Rattle.formats.specs.Code.{coded_by}
 use Rattle.lines.specs.Written.{put, line_written}
 use Rattle.pieces.specs.LastLine.{counted}
 use Rattle.pieces.specs.Course.{may_go_on}
 use Rattle.pieces.specs.AsCoded.Runner.{FieldLeft, field_left, field_run}
+use Rattle.controller.specs.declared.state.Controller.{Controller}
 use Rattle.controller.specs.Control.{code_in}
 use Rattle.controller.specs.State.{Desk, desk}
-use Rattle.controller.specs.Start.{Started, may_start, starting, starting_by, start_step}
+use Rattle.controller.specs.Start.{Started, may_start, starting_by, start_step}
 use Rattle.desk.specs.declared.field.Field.{Field}
 use Rattle.desk.specs.declared.field.Field.TheVariants.{Setup, Start, Shared}
-use Rattle.desk.specs.declared.reading.Reading.{Reading}
-use Rattle.desk.specs.declared.reading.Reading.TheVariants.{Taken, End, Refused}
-use Rattle.desk.specs.declared.deed.Done.{Done as HeldDone}
 use Rattle.desk.specs.declared.run.Run.{Run as HeldRun}
-use Rattle.desk.specs.Reading.{read_at, seen_after}
+use Rattle.desk.specs.declared.deed.Answer.{Answer}
+use Rattle.desk.specs.declared.reading.Taken.{Taken}
+use Rattle.desk.specs.Reading.{read_at, reading, seen_after}
 use Rattle.desk.specs.Deed.{Done, done, shared_deed, deed_of, answer_line}
 use Rattle.desk.specs.Run.{Run, taking, took_by, met_by, desk_course}
-use Rattle.desk.specs.AsCoded.Held.{run_of}
+use Rattle.desk.specs.AsCoded.Held.{run_of, answer_in}
 
 -- ---- what is refused changes nothing
 
-code_refused : (coded : Coded) (old : Desk) → ((starting_by coded old).refusal ≡ 0 → ⊥)
+code_refused : (coded : Option Coded) (old : Desk) → ((starting_by coded old).refusal ≡ 0 → ⊥)
     → (starting_by coded old).desk ≡ old
-unfolding starting_by starting
-code_refused (Format row broadcast) old other = absurd (other refl)
-code_refused Lacking old other = refl
+code_refused (Some coded) old other = absurd (other refl)
+code_refused None old other = refl
 
 start_refused : (old : Desk) → ((start_step old).refusal ≡ 0 → ⊥) → (start_step old).desk ≡ old
 unfolding start_step
@@ -61,11 +80,10 @@ refused_changes_nothing bytes (Shared field) old other =
 
 -- ---- a refusal is 14: none waits for bytes
 
-code_by_14 : (coded : Coded) (old : Desk)
+code_by_14 : (coded : Option Coded) (old : Desk)
     → may_go_on (starting_by coded old).refusal ≡ eqb (starting_by coded old).refusal 0
-unfolding starting_by starting
-code_by_14 (Format row broadcast) old = refl
-code_by_14 Lacking old = refl
+code_by_14 (Some coded) old = refl
+code_by_14 None old = refl
 
 start_by_14 : (old : Desk) → may_go_on (start_step old).refusal ≡ eqb (start_step old).refusal 0
 unfolding start_step
@@ -85,65 +103,74 @@ refused_by_14 bytes (Shared field) old =
 
 -- ---- what stands at a place, as the code takes it
 
-module _ (old : HeldRun) (ram window out : List ℕ) (at into : ℕ) (reading : Reading)
-    (is_reading : reading ≡ read_at window at old.seen) where
+module _ (old : HeldRun) (ram window out : List ℕ) (at into : ℕ)
+    (answer : Result (Option Taken) Refusal)
+    (is_reading : reading answer ≡ read_at window at old.seen) where
   abbrev met : FieldLeft Run
   met = field_run (desk_course.meets (run_of old ram) window at) (run_of old ram) out into
 
-  module _ (told : Field) (next : ℕ) (is : reading ≡ Taken told next) (left : HeldDone)
-      (ram' : List ℕ)
-      (is_left : done left.refusal left.answer (desk left.controller ram')
-      ≡ deed_of window told (desk old.controller ram)) where
-    abbrev deed : Done
-    deed = deed_of window told (desk old.controller ram)
-
-    pub field_taken : (out' : List ℕ) (into' : ℕ) (new : HeldRun)
-        → left.refusal ≡ 0
-        → put into' out' ≡ line_written out into (answer_line ram' left.answer)
+  module _ (told : Taken) (is : answer ≡ Ok (Some told)) (outcome : Result Answer Refusal)
+      (left : Controller) (ram' : List ℕ)
+      (is_left : done (refused outcome) (answer_in outcome) (desk left ram')
+      ≡ deed_of window told.field (desk old.controller ram)) where
+    -- a field is taken
+    pub field_taken : (deed : Answer) (out' : List ℕ) (into' : ℕ) (new : HeldRun)
+        → outcome ≡ Ok deed
+        → put into' out' ≡ line_written out into (answer_line ram' deed)
         → new
         ≡ record {
-          controller = left.controller;
-          seen = seen_after told old.seen;
+          controller = left;
+          seen = seen_after told.field old.seen;
           fields = counted (old.fields + 1);
-          offset = counted (old.offset + (next - at));
+          offset = counted (old.offset + (told.next - at));
         }
-        → field_left (Ok (Some (record { next = next; put = into' }))) (run_of new ram') out'
+        → field_left (Ok (Some (record { next = told.next; put = into' }))) (run_of new ram') out'
         ≡ met
     unfolding field_run desk_course met_by took_by taking
-    field_taken out' into' new none is_put is_new =
-        rw (
-          ← is_reading,
-          is,
-          ← is_left,
-          eq-eqb left.refusal 0 none,
-          ← is_put,
-          is_new,
-        )
+    field_taken deed out' into' new done_so is_put is_new =
+        rw (← is_reading, is, ← is_left, done_so, ← is_put, is_new)
 
-    pub field_refused : (left.refusal ≡ 0 → ⊥)
-        → field_left (Err left.refusal) (run_of old ram') out ≡ met
+    -- what it does is refused
+    pub deed_refused : (refusal : Refusal) → outcome ≡ Err refusal
+        → field_left (Err refusal) (run_of (record {
+          controller = left;
+          seen = old.seen;
+          fields = old.fields;
+          offset = old.offset;
+        }) ram') out
+        ≡ met
     unfolding field_run desk_course met_by took_by
-    field_refused other =
-        let kept : deed.desk ≡ desk old.controller ram =
-        refused_changes_nothing window told (desk old.controller ram)
-        (λ none. other (ap (λ (any : Done). any.refusal) is_left ∙ none)) in
-        let same : ram' ≡ ram =
-        ap (λ (any : Done). any.desk.ram) is_left ∙ ap (λ (any : Desk). any.ram) kept in
+    deed_refused refusal refused_so =
+        let number : number_of refusal ≡ (deed_of window told.field (desk old.controller ram)).refusal =
+        sym (ap (λ (any : Result Answer Refusal). refused any) refused_so)
+        ∙ ap (λ (any : Done). any.refusal) is_left in
+        let other : number_of refusal ≢ 0 = some_refused (Some refusal) refl in
+        let kept : (deed_of window told.field (desk old.controller ram)).desk
+        ≡ desk old.controller ram =
+        refused_changes_nothing window told.field (desk old.controller ram)
+        (λ none. other (number ∙ none)) in
+        let same : desk left ram' ≡ desk old.controller ram =
+        ap (λ (any : Done). any.desk) is_left ∙ kept in
         rw (
-          same,
           ← is_reading,
           is,
-          ← is_left,
-          ne_eqb left.refusal 0 other,
+          ← number,
+          ne_eqb (number_of refusal) 0 other,
         )
+        (ap (λ (any : Desk). field_left (Err refusal) (record {
+          seen = old.seen;
+          desk = any;
+          fields = old.fields;
+          offset = old.offset;
+        }) out) same)
 
-  pub end_met : reading ≡ End → field_left (Ok None) (run_of old ram) out ≡ met
+  -- nothing is left
+  pub end_met : answer ≡ Ok None → field_left (Ok None) (run_of old ram) out ≡ met
   unfolding field_run desk_course met_by
   end_met is = rw (← is_reading, is)
 
-  pub refusal_met : (number : ℕ) → reading ≡ Refused number
-      → field_left (Err number) (run_of old ram) out ≡ met
+  -- what stands there is refused
+  pub refusal_met : (refusal : Refusal) → answer ≡ Err refusal
+      → field_left (Err refusal) (run_of old ram) out ≡ met
   unfolding field_run desk_course met_by
-  refusal_met number is = rw (← is_reading, is)
-
-pub ruleset meeting = (field_taken, field_refused, end_met, refusal_met)
+  refusal_met refusal is = rw (← is_reading, is)

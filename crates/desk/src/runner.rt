@@ -1,8 +1,8 @@
 // A controller's run is a runner: what its code makes of what stands at a place of the recording.
-use crate::reading::Reading;
 use crate::run::Run;
 use crate::{deed, print, reading};
 use pieces::{Runner, Took, Went};
+use refusals::Refusal;
 use rows::Row;
 
 impl Runner for Run {
@@ -33,20 +33,20 @@ impl Runner for Run {
         room: usize,
         most: u64,
     ) -> Went {
-        let Some(words) = self.controller.words_wanted() else {
+        let Some(wanted) = self.controller.words_wanted() else {
             return Went { at, left: most };
         };
         let row = Row {
-            block: words.block,
-            cell: words.cell,
-            end: words.end,
+            block: wanted.block,
+            cell: wanted.cell,
+            end: wanted.end,
         };
-        let taken = row.take(ram, window, at, words.line, self.seen.setup, room, most);
+        let taken = row.take(ram, window, at, wanted.line, self.seen.setup, room, most);
         if taken.words == 0 {
             return Went { at, left: most };
         }
-        self.controller = self.controller.with_taken(words.taken + taken.words);
-        self.pass(taken.words as u64, 10 * taken.words as u64);
+        self.controller.set_taken(wanted.taken + taken.words);
+        self.pass(u64::from(taken.words), 10 * u64::from(taken.words));
         Went {
             at: taken.at,
             left: taken.left,
@@ -60,23 +60,16 @@ impl Runner for Run {
         at: usize,
         out: &mut [u8],
         put: usize,
-    ) -> Result<Option<Took>, u8> {
-        match reading::read_field(window, at, self.seen) {
-            Reading::Taken { field, next } => {
-                let deed = deed::do_field(self.controller, ram, window, field);
-                if deed.refusal != 0 {
-                    return Err(deed.refusal);
-                }
-                self.controller = deed.controller;
-                self.seen = field.seen_after(self.seen);
-                self.pass(1, (next - at) as u64);
-                Ok(Some(Took {
-                    next,
-                    put: print::put_answer(out, put, ram, deed.answer),
-                }))
-            }
-            Reading::End => Ok(None),
-            Reading::Refused(number) => Err(number),
-        }
+    ) -> Result<Option<Took>, Refusal> {
+        let Some(taken) = reading::read_field(window, at, self.seen)? else {
+            return Ok(None);
+        };
+        let answer = deed::do_field(&mut self.controller, ram, window, taken.field)?;
+        self.seen = taken.field.seen_after(self.seen);
+        self.pass(1, (taken.next - at) as u64);
+        Ok(Some(Took {
+            next: taken.next,
+            put: print::put_answer(out, put, ram, answer),
+        }))
     }
 }
