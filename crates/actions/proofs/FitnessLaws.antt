@@ -1,5 +1,6 @@
 -- How the code judges refusal 4, part by part: an open message, the core, the terminal. Assumes
 -- nothing.
+use Rattle.std.proofs.Common.{Option, Some}
 use mathlib.Core.Path.{◌≡◌}
 use mathlib.Core.Bool.{Bool, ◌&&◌}
 use Prim.Native.Nat.{ℕ}
@@ -7,8 +8,6 @@ use Rattle.bus.specs.Limits.{is_station, are_flags}
 use Rattle.card.specs.Memory.{card_blocks, is_block}
 use Rattle.queue.specs.Queue.{fit_queue}
 use Rattle.message.specs.declared.state.OpenMessage.{OpenMessage}
-use Rattle.message.specs.declared.state.Message.{Message}
-use Rattle.message.specs.declared.state.Message.TheVariants.{Open}
 use Rattle.message.specs.Fitness.{fit_open, fit_message}
 use Rattle.terminal.specs.declared.state.Core.{Core}
 use Rattle.terminal.specs.Fitness.{fit_core}
@@ -16,9 +15,9 @@ use Rattle.actions.specs.declared.Terminal.{Terminal}
 use Rattle.actions.specs.Actions.{fit_terminal}
 
 -- a message, where one is open
-pub open_is_fit : (blocks : ℕ) (message : Message) (held : OpenMessage) (station : ℕ)
+pub open_is_fit : (blocks : ℕ) (message : Option OpenMessage) (held : OpenMessage) (station : ℕ)
     (fit : Bool)
-    → message ≡ Open held → fit ≡ fit_open blocks station held
+    → message ≡ Some held → fit ≡ fit_open blocks station held
     → fit ≡ fit_message blocks message station
 open_is_fit blocks message held station fit is same = rw is same
 

@@ -8,17 +8,17 @@ use crate::Terminal;
 use bus::command;
 use bus::limits::{ALL_FLAGS, LAST_STATION};
 use card::place::CARD_BLOCKS;
-use message::state::{Message, OpenMessage, Second, Stage};
-use message::{judge, state};
+use message::judge;
+use message::state::{OpenMessage, Stage};
 use terminal::state::Core;
 
 // After a second command only data receives, that command as rule 6 takes it.
-fn is_fit_second(second: Second, station: u16, command: u16, receive: bool) -> bool
+fn is_fit_second(second: Option<u16>, station: u16, command: u16, receive: bool) -> bool
     ensures { result ≡ fit_second second station command receive }
 {
     match second {
-        Second::Absent => true,
-        Second::Command(value) => {
+        None => true,
+        Some(value) => {
             let taken = judge::is_second(station, command, value);
             receive & taken
         }
@@ -26,10 +26,10 @@ fn is_fit_second(second: Second, station: u16, command: u16, receive: bool) -> b
 }
 
 // A stage that the command can reach.
-fn is_fit_stage(stage: Stage, illegal: bool, second: Second, taken: u16) -> bool
+fn is_fit_stage(stage: Stage, illegal: bool, second: Option<u16>, taken: u16) -> bool
     ensures { result ≡ fit_stage stage illegal second taken }
 {
-    let present = state::has_second(second);
+    let present = second.is_some();
     match stage {
         Stage::Data => !illegal,
         Stage::SecondCommand => !illegal & present & (taken == 0),
@@ -57,12 +57,12 @@ fn is_fit_open(blocks: u16, station: u16, message: OpenMessage) -> bool
 }
 
 // On a card of so many blocks.
-fn is_fit_message(blocks: u16, message: Message, station: u16) -> bool
+fn is_fit_message(blocks: u16, message: Option<OpenMessage>, station: u16) -> bool
     ensures { result ≡ fit_message blocks message station }
 {
     match message {
-        Message::Idle => true,
-        Message::Open(held) => is_fit_open(blocks, station, held),
+        None => true,
+        Some(held) => is_fit_open(blocks, station, held),
     }
 }
 

@@ -32,10 +32,15 @@ impl Terminal {
                 terminal: self,
             };
         }
-        let number = host::write(ram, CARD_BLOCKS, address, words);
-        Done {
-            refusal: number,
-            terminal: self,
+        match host::write(ram, CARD_BLOCKS, address, words) {
+            Ok(()) => Done {
+                refusal: 0,
+                terminal: self,
+            },
+            Err(refusal) => Done {
+                refusal: u8::from(refusal),
+                terminal: self,
+            },
         }
     }
 

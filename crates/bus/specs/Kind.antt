@@ -1,5 +1,5 @@
 -- What a command asks for. Definitions only. Assumes nothing.
-use Rattle.std.specs.Prelude.{Bool, cond, not, ◌&&◌, ◌||◌, ℕ, eqb, leb}
+use Rattle.std.specs.Prelude.{Bool, cond, not, ◌&&◌, ◌||◌, ℕ, eqb, leb, Option, Some, None}
 use Rattle.std.specs.Bool.{beq}
 use Rattle.bus.specs.declared.mode.Mode.{Mode}
 use Rattle.bus.specs.declared.mode.ModeWord.{ModeWord}
@@ -26,17 +26,20 @@ mode_kind_of Without code =
 mode_kind_of Sent code = cond (eqb code 18) ModeLast ModeSend
 mode_kind_of Taken code = ModeTake
 
--- the code is not reserved, the direction is the code's, and a broadcast is allowed or is none
+-- the direction is the code's, and a broadcast is allowed or is none
 abbrev pub legal_mode_of : Mode → ℕ → Bool
 legal_mode_of row command =
-    row.legal && beq (is_transmit command) row.transmit
-    && (row.broadcast || not (is_broadcast command))
+    beq (is_transmit command) row.transmit && (row.broadcast || not (is_broadcast command))
+
+-- what a mode command asks for, by its code's row of the table; one of a reserved code is illegal
+abbrev pub row_kind_of : Option Mode → ℕ → Kind
+row_kind_of None command = Illegal
+row_kind_of (Some row) command =
+    cond (legal_mode_of row command) (mode_kind_of row.word (mode_code_of command)) Illegal
 
 -- a broadcast with direction 1 to a data subaddress is illegal: nobody could answer it
 unfoldable pub kind_of : ℕ → Kind
 kind_of command =
-    cond (is_mode command)
-    (cond (legal_mode_of (mode_of (mode_code_of command)) command)
-    (mode_kind_of (mode_of (mode_code_of command)).word (mode_code_of command)) Illegal)
+    cond (is_mode command) (row_kind_of (mode_of (mode_code_of command)) command)
     (cond (not (is_transmit command)) Receive
     (cond (is_broadcast command) Illegal Transmit))

@@ -1,5 +1,5 @@
 -- MIL-STD-1553B's table of mode codes, as document 01 takes it. Definitions only. Assumes nothing.
-use Rattle.std.specs.Prelude.{Bool, true, false, List, [], ◌∷◌, ℕ, get_or}
+use Rattle.std.specs.Prelude.{Bool, true, false, List, [], ◌∷◌, ℕ, get_or, Option, Some, None}
 use Rattle.bus.specs.declared.mode.Mode.{Mode}
 use Rattle.bus.specs.declared.mode.ModeWord.{ModeWord}
 use Rattle.bus.specs.declared.mode.ModeWord.TheVariants.{Without, Sent, Taken}
@@ -18,16 +18,16 @@ abbrev alone : Bool
 alone = false
 
 -- a legal row: the direction bit, the data word, whether it may be broadcast
-abbrev pub row : Bool → ModeWord → Bool → Mode
+abbrev pub row : Bool → ModeWord → Bool → Option Mode
 row direction word allowed =
-    record { legal = true; transmit = direction; word = word; broadcast = allowed }
+    Some (record { transmit = direction; word = word; broadcast = allowed })
 
 -- a code that the standard keeps back: illegal
-abbrev pub reserved : Mode
-reserved = record { legal = false; transmit = false; word = Without; broadcast = false }
+abbrev pub reserved : Option Mode
+reserved = None
 
 -- code by code: direction, data word, broadcast
-unfoldable pub mode_table : List Mode
+unfoldable pub mode_table : List (Option Mode)
 mode_table =
     row transmit Without alone  --  0  dynamic bus control
     ∷ row transmit Without broadcast  --  1  synchronize
@@ -53,5 +53,5 @@ mode_table =
     ∷ row receive Taken broadcast  -- 21  override selected transmitter shutdown
     ∷ []  -- 22 to 31 are reserved
 
-unfoldable pub mode_of : ℕ → Mode
+unfoldable pub mode_of : ℕ → Option Mode
 mode_of code = get_or mode_table code reserved

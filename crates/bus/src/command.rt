@@ -53,13 +53,12 @@ pub fn words(command: u16) -> u16
 pub fn is_broadcast(command: u16) -> bool
     ensures { result ≡ is_broadcast command }
 {
-    command / 2048 == ALL_STATIONS
+    address(command) == ALL_STATIONS
 }
 
 // Subaddresses 0 and 31 are mode commands.
 pub fn is_mode(command: u16) -> bool
     ensures { result ≡ is_mode command }
 {
-    let number = command / 32 % 32;
-    (number == 0) | (number == 31)
+    matches!(subaddress(command), 0 | 31)
 }

@@ -5,7 +5,7 @@ ghost use Rattle.bus.specs.Kind.{kind_of, legal_mode_of, mode_kind_of};
 use crate::mode::{Mode, ModeWord};
 use crate::{command, mode};
 
-#[derive(Clone, Copy)]
+#[derive(Clone, Copy, PartialEq, Eq)]
 pub enum Kind {
     // data words for this station
     Receive,
@@ -30,23 +30,13 @@ pub enum Kind {
 fn mode_kind(word: ModeWord, code: u16) -> Kind
     ensures { result ≡ mode_kind_of word code }
 {
-    match word {
-        ModeWord::Without => {
-            if code == 2 {
-                return Kind::ModeStatus;
-            }
-            if (4 <= code) & (code <= 7) {
-                return Kind::ModeSwitch;
-            }
-            Kind::ModeReply
-        }
-        ModeWord::Sent => {
-            if code == 18 {
-                return Kind::ModeLast;
-            }
-            Kind::ModeSend
-        }
-        ModeWord::Taken => Kind::ModeTake,
+    match (word, code) {
+        (ModeWord::Without, 2) => Kind::ModeStatus,
+        (ModeWord::Without, 4..=7) => Kind::ModeSwitch,
+        (ModeWord::Without, _) => Kind::ModeReply,
+        (ModeWord::Sent, 18) => Kind::ModeLast,
+        (ModeWord::Sent, _) => Kind::ModeSend,
+        (ModeWord::Taken, _) => Kind::ModeTake,
     }
 }
 
@@ -54,29 +44,26 @@ fn mode_kind(word: ModeWord, code: u16) -> Kind
 fn is_legal_mode(row: Mode, command: u16) -> bool
     ensures { result ≡ legal_mode_of row command }
 {
-    let transmit = command::is_transmit(command);
-    let broadcast = command::is_broadcast(command);
-    row.legal & (transmit == row.transmit) & (row.broadcast | !broadcast)
+    command::is_transmit(command) == row.transmit
+        && (row.broadcast || !command::is_broadcast(command))
 }
 
 // What a command asks for.
+#[tactic(auto, unfolding(crate::specs::Kind::kind_of))]
 pub fn kind_of(command: u16) -> Kind
     ensures { result ≡ kind_of command }
 {
     if command::is_mode(command) {
         let code = command::mode_code(command);
-        let row = mode::mode_of(code);
-        if is_legal_mode(row, command) {
-            let word = row.word;
-            return mode_kind(word, code);
+        match mode::mode_of(code) {
+            Some(row) if is_legal_mode(row, command) => mode_kind(row.word, code),
+            _ => Kind::Illegal,
         }
-        return Kind::Illegal;
+    } else if !command::is_transmit(command) {
+        Kind::Receive
+    } else if command::is_broadcast(command) {
+        Kind::Illegal
+    } else {
+        Kind::Transmit
     }
-    if !command::is_transmit(command) {
-        return Kind::Receive;
-    }
-    if command::is_broadcast(command) {
-        return Kind::Illegal;
-    }
-    Kind::Transmit
 }

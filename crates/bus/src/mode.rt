@@ -1,19 +1,18 @@
 // The mode codes: what the standard's table, as document 01 takes it, says of each.
-ghost use Rattle.std.specs.Prelude.{◌≡◌};
+ghost use Rattle.std.specs.Prelude.{◌≡◌, ◌≤◌};
 ghost use Rattle.bus.specs.Mode.{mode_of, row};
 
 // What becomes of the one data word of a mode command.
-#[derive(Clone, Copy)]
+#[derive(Clone, Copy, PartialEq, Eq)]
 pub enum ModeWord {
     Without,
     Sent,
     Taken,
 }
 
-// A row of the table. In a row that is not legal the other three say nothing.
+// A legal row of the table.
 #[derive(Clone, Copy)]
 pub struct Mode {
-    pub legal: bool,
     // the direction bit that the command must have
     pub transmit: bool,
     pub word: ModeWord,
@@ -37,33 +36,26 @@ const BROADCAST: bool = true;
 const ALONE: bool = false;
 
 // A legal row.
-fn row(transmit: bool, word: ModeWord, broadcast: bool) -> Mode
+fn row(transmit: bool, word: ModeWord, broadcast: bool) -> Option<Mode>
     ensures { result ≡ row transmit word broadcast }
 {
-    Mode {
-        legal: true,
-        transmit: transmit,
-        word: word,
-        broadcast: broadcast,
-    }
+    Some(Mode {
+        transmit,
+        word,
+        broadcast,
+    })
 }
 
 // A code that the standard keeps back: illegal.
-const RESERVED: Mode = Mode {
-    legal: false,
-    transmit: false,
-    word: ModeWord::Without,
-    broadcast: false,
-};
+const RESERVED: Option<Mode> = None;
 
-// The table's row of a mode code: the standard's table, line by line, each with the standard's five
-// bits and name of the code. It stands in the standard's two halves, since of one match over all 32
-// the compiler makes a jump by a table of addresses, which takes longer.
-pub fn mode_of(code: u16) -> Mode
+// Codes 0 to 15: without a data word.
+#[tactic(auto, unfolding(crate::specs::Mode::mode_of, crate::specs::Mode::mode_table))]
+fn first_half(code: u16) -> Option<Mode>
+    requires { code ≤ 15 }
     ensures { result ≡ mode_of code }
 {
-    // 0 to 15: without a data word
-    let first = match code {
+    match code {
         0 => row(TRANSMIT, WITHOUT, ALONE), // 00000 dynamic bus control
         1 => row(TRANSMIT, WITHOUT, BROADCAST), // 00001 synchronize
         2 => row(TRANSMIT, WITHOUT, ALONE), // 00010 transmit status word
@@ -81,9 +73,16 @@ pub fn mode_of(code: u16) -> Mode
         14 => RESERVED, // 01110
         15 => RESERVED, // 01111
         _ => RESERVED, // no code of this half
-    };
-    // 16 to 31: with one
-    let second = match code {
+    }
+}
+
+// Codes 16 to 31: with one.
+#[tactic(auto, unfolding(crate::specs::Mode::mode_of, crate::specs::Mode::mode_table))]
+fn second_half(code: u16) -> Option<Mode>
+    requires { 16 ≤ code }
+    ensures { result ≡ mode_of code }
+{
+    match code {
         16 => row(TRANSMIT, SENT, ALONE), // 10000 transmit vector word
         17 => row(RECEIVE, TAKEN, BROADCAST), // 10001 synchronize with data word
         18 => row(TRANSMIT, SENT, ALONE), // 10010 transmit last command
@@ -101,9 +100,18 @@ pub fn mode_of(code: u16) -> Mode
         30 => RESERVED, // 11110
         31 => RESERVED, // 11111
         _ => RESERVED, // no code of this half
-    };
-    if code <= 15 {
-        return first;
     }
-    second
+}
+
+// The table's row of a mode code: the standard's table, line by line, each with the standard's five
+// bits and name of the code. It stands in the standard's two halves, since of one match over all 32
+// the compiler makes a jump by a table of addresses, which takes longer.
+pub fn mode_of(code: u16) -> Option<Mode>
+    ensures { result ≡ mode_of code }
+{
+    if code <= 15 {
+        first_half(code)
+    } else {
+        second_half(code)
+    }
 }

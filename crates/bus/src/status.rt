@@ -21,6 +21,7 @@ pub struct Status {
 impl Status {
     // The status that an opening makes: of the flags as they stand, of the command and whether it
     // is illegal, of busy as the opening found it, and of whether the terminal flag is inhibited.
+    #[tactic(auto, unfolding(crate::specs::Status::caught_status))]
     pub fn caught(
         station: u16,
         illegal: bool,
@@ -31,22 +32,23 @@ impl Status {
     ) -> Status
         ensures { result ≡ caught_status station illegal command flags busy inhibit }
     {
-        let broadcast = command::is_broadcast(command);
-        let mode = command::is_mode(command);
-        let code = command::mode_code(command);
         Status {
-            station: station,
+            station,
             error: illegal,
             request: flags / 4 % 2 == 1,
-            broadcast: broadcast,
-            busy: busy,
+            broadcast: command::is_broadcast(command),
+            busy,
             subsystem: flags / 8 % 2 == 1,
-            control: (flags / 16 % 2 == 1) & (!illegal & mode & (code == 0)),
-            flag: (flags / 32 % 2 == 1) & !inhibit,
+            control: flags / 16 % 2 == 1
+                && !illegal
+                && command::is_mode(command)
+                && command::mode_code(command) == 0,
+            flag: flags / 32 % 2 == 1 && !inhibit,
         }
     }
 
     // The word that goes out. A station has five bits.
+    #[tactic(auto, unfolding(crate::specs::Status::status_word))]
     pub fn word(self) -> u16
         ensures { result ≡ status_word self }
     {
@@ -62,6 +64,7 @@ impl Status {
 }
 
 // A status word with its message error bit set.
+#[tactic(auto, unfolding(crate::specs::Status::without_error, crate::specs::Status::with_error))]
 pub fn with_error(status: u16) -> u16
     ensures { result ≡ with_error status }
 {

@@ -23,7 +23,7 @@ pub fn word_of(marks: u8, value: u16, time: u32) -> Word
         sync: marks / 2 % 2 == 1,
         sound: marks / 4 % 2 == 1,
         joined: marks / 8 % 2 == 1,
-        value: value,
-        time: time,
+        value,
+        time,
     }
 }

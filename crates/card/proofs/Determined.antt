@@ -1,7 +1,10 @@
 -- Each public contract of the crate allows one outcome alone: one result, and one content of every
 -- cell that was lent. Assumes nothing.
-use Rattle.std.proofs.Common.{ℕ, List}
+use Rattle.std.proofs.Common.{◌≡◌, ℕ, List, Result, ap}
 use Rattle.rules.proofs.Determined.{Determined, DeterminedAs, same}
+use Rattle.refusals.specs.declared.Refusal.{Refusal}
+use Rattle.refusals.specs.Number.{refused}
+use Rattle.refusals.proofs.NumberLaws.{same_refusal, same_outcome}
 use Rattle.card.specs.Host.{Wrote, wrote}
 use Rattle.card.proofs.place.word_address.Kinds as word_address_kinds
 use Rattle.card.proofs.place.word_address.Reads as word_address_reads
@@ -104,13 +107,21 @@ pub is_write : Determined 0 is_write_kinds.ps is_write_kinds.r is_write_reads.Po
 is_write κs arguments result result' exit exit' = same
 
 pub host_write :
-    DeterminedAs 2 host_write_kinds.ps host_write_kinds.r host_write_reads.Post Wrote
-    (λ κs result exit. wrote result exit.0.now)
-host_write κs arguments result result' exit exit' = same
+    DeterminedAs 2 host_write_kinds.ps host_write_kinds.r host_write_reads.Post
+    (Result Unit Refusal × List ℕ)
+    (λ κs result exit. (result, exit.0.now))
+host_write κs arguments result result' exit exit' one other =
+    let left : wrote (refused result) exit.0.now ≡ wrote (refused result') exit'.0.now =
+    same one other in
+    let outcome : result ≡ result' =
+    same_outcome result result' (ap (λ (after : Wrote). after.number) left) in
+    let ram : exit.0.now ≡ exit'.0.now = ap (λ (after : Wrote). after.ram) left in
+    cc
 
 pub part_refusal :
     Determined 1 part_refusal_kinds.ps part_refusal_kinds.r part_refusal_reads.Post
-part_refusal κs arguments result result' exit exit' = same
+part_refusal κs arguments result result' exit exit' one other =
+    same_refusal result result' (same one other)
 
 pub shown :
     DeterminedAs 1 shown_kinds.ps shown_kinds.r shown_reads.Post (List ℕ)
@@ -119,7 +130,8 @@ shown κs arguments result result' exit exit' = same
 
 pub sent_refusal :
     Determined 1 sent_refusal_kinds.ps sent_refusal_kinds.r sent_refusal_reads.Post
-sent_refusal κs arguments result result' exit exit' = same
+sent_refusal κs arguments result result' exit exit' one other =
+    same_refusal result result' (same one other)
 
 pub sent_part :
     DeterminedAs 1 sent_part_kinds.ps sent_part_kinds.r sent_part_reads.Post (List ℕ)

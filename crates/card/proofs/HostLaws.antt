@@ -1,86 +1,60 @@
--- The laws of `specs/Host.antt`, and the loop of `write_words`: what is left to store takes memory
--- as it is to memory as it is to be. Assumes nothing.
-use Rattle.std.proofs.Common.{
-  ◌≡◌,
-  ℕ,
-  ◌+◌,
-  ◌<◌,
-  ◌≤◌,
-  leb,
-  List,
-  length,
-  get_or,
-  drop,
-  set,
-  sym,
-  ap,
-  ◌∙◌,
-  add-zero,
-  add-one,
-  arith,
-  length-set,
-  drop_of_length-le,
-  drop-cons,
-  le-leb,
-}
-use lib.Seq.{sets, set_out}
-use Rattle.card.specs.Memory.{words_in}
-use Rattle.card.specs.Host.{wrote, most_written, is_write}
-
--- ---- one word
+-- The laws of `specs/Host.antt`: what `write_words` copies is all that is stored. Assumes nothing.
+use Rattle.std.proofs.Common.{◌≡◌, ℕ, suc, ◌+◌, ◌-◌, ◌≤◌, min, List, [], ◌∷◌, length, take, set, sym, refl, ◌∙◌, arith, append_assoc, length-set, length-take, take_all}
+use native.Mathlib.Decide.{dec_lt, dec_le}
+use lib.Seq.{sets, sets-eq, set_out, drop-drop}
+use borrow.Rule.Slice.PartMut.{put_mid}
 
 -- past the end of memory nothing is stored
-pub stored_past : (ram : List ℕ) (address word : ℕ) → length ram ≤ address
-    → ram ≡ set ram address word
-stored_past ram address word past = sym (set_out ram address word past)
+none_stored : (words ram : List ℕ) (address : ℕ) → length ram ≤ address
+    → sets ram address words ≡ ram
+none_stored [] ram address past = refl
+none_stored (word ∷ words) ram address past =
+    rw (set_out ram address word past) (none_stored words ram (suc address) (omega arith))
 
--- a store keeps memory as long as it was
-pub stored_long : (ram ram' : List ℕ) (address word size : ℕ)
-    → ram' ≡ set ram address word → length ram ≡ size → length ram' ≡ size
-stored_long ram ram' address word size stored long =
-    ap length stored ∙ length-set ram address word ∙ long
+-- the words that memory has a place for are all that is stored
+placed : (words ram : List ℕ) (address : ℕ)
+    → sets ram address (take (length ram - address) words) ≡ sets ram address words
+placed [] ram address = rw (take_all {A = ℕ} (length ram - address) [] (omega arith))
+placed (word ∷ words) ram address =
+    elim (dec_lt address (length ram)) [
+      | yes inside ↦
+          let more : length ram - address ≡ suc (length (set ram address word) - suc address) =
+          omega (arith, length-set ram address word) in
+          rw more (placed words (set ram address word) (suc address))
+      | no past ↦
+          rw (
+            none_stored (take (length ram - address) (word ∷ words)) ram address (omega arith),
+            none_stored (word ∷ words) ram address (omega arith),
+          )
+    ]
 
--- ---- the loop
-
--- the first `word` words are stored: the rest takes `ram` to what is wanted
-pub record Left (wanted ram : List ℕ) (address : ℕ) (words : List ℕ) (word : ℕ) : Type 0 where
-  pub leads : wanted ≡ sets ram (address + word) (drop word words)
-
-module _ (ram : List ℕ) (address : ℕ) (words : List ℕ) where
-  pub left_all : Left (sets ram address words) ram address words 0
-  left_all = record { leads = rw (add-zero address) }
-
-module _ {wanted ram : List ℕ} {address : ℕ} {words : List ℕ} {word : ℕ}
-    (left : Left wanted ram address words word) where
-  pub left_less : (ram' : List ℕ) → word < length words
-      → ram' ≡ set ram (address + word) (get_or words word 0)
-      → Left wanted ram' address words (word + 1)
-  left_less ram' inside stored =
-      let next : address + (word + 1) ≡ address + word + 1 = omega arith in
-      record {
-        leads =
-            left.leads
-            ∙ rw (
-              stored,
-              next,
-              add-one word,
-              add-one (address + word),
-              drop-cons words word 0 inside,
-            );
-      }
-
-  pub left_none : length words ≤ word → ram ≡ wanted
-  left_none all = sym (left.leads ∙ rw (drop_of_length-le words {i = word} all))
-
--- ---- whether it is a write
-
--- one to 64 words are one where they end on the card
-pub is_write_by_end : (blocks address count : ℕ) → 1 ≤ count → count ≤ most_written
-    → leb (address + count) (words_in blocks) ≡ is_write blocks address count
-is_write_by_end blocks address count some few =
-    rw (le-leb 1 count some, le-leb count most_written few)
-
--- ---- the answer
-
-pub wrote_ram : (number : ℕ) (ram ram' : List ℕ) → ram ≡ ram' → wrote number ram ≡ wrote number ram'
-wrote_ram number ram ram' same = ap (λ (memory : List ℕ). wrote number memory) same
+-- a copy of the words that memory has a place for, to where they begin or memory ends
+pub copied : (ram words part : List ℕ) (address first count : ℕ)
+    → first ≡ min address (length ram) → count ≡ min (length words) (length ram - first)
+    → part ≡ take count words
+    → put_mid first (first + count - first) ram part ≡ sets ram address words
+copied ram words part address first count begins few is =
+    let long : length part ≡ count = rw is (length-take count words ∙ omega (arith, few)) in
+    let more : first + count - first ≡ count = omega arith in
+    let pasted : put_mid first (first + count - first) ram part ≡ sets ram first part =
+    rw (more, drop-drop count first ram, sets-eq part ram first (omega arith), long, append_assoc) in
+    elim (dec_lt address (length ram)) [
+      | yes inside ↦
+          let here : first ≡ address = omega arith in
+          let there : take count words ≡ take (length ram - address) words =
+          elim (dec_le (length words) (length ram - address)) [
+            | yes fit ↦
+                rw (
+                  take_all count words (omega arith),
+                  take_all (length ram - address) words fit,
+                )
+            | no over ↦
+                let room : count ≡ length ram - address = omega arith in
+                rw room
+          ] in
+          pasted ∙ rw (here, is, there) (placed words ram address)
+      | no past ↦
+          pasted
+          ∙ none_stored part ram first (omega arith)
+          ∙ sym (none_stored words ram address (omega arith))
+    ]

@@ -1,27 +1,7 @@
--- The laws of `specs/Memory.antt`, for any number of blocks: the address law, and a store or a read
--- on each way that the code takes. Assumes nothing.
-use Rattle.std.proofs.Common.{
-  ◌≡◌,
-  ℕ,
-  ◌<◌,
-  ◌≤◌,
-  ◌≢◌,
-  List,
-  length,
-  get_or,
-  set,
-  sym,
-  ap,
-  ◌∙◌,
-  arith,
-  length-set,
-  get_or-set_same,
-  le-ltb,
-  lt-ltb,
-}
+-- The laws of `specs/Memory.antt`, for any number of blocks: the address law, and a store to a cell
+-- that is there and to one that is not. Assumes nothing.
+use Rattle.std.proofs.Common.{◌≡◌, ℕ, ◌<◌, ◌≤◌, ◌≢◌, List, length, set, ap, arith, length-set, get_or-set_same, le-ltb, lt-ltb}
 use native.Mathlib.Decide.{dec_lt}
-use lib.ListN.{get_or-eq_default}
-use lib.Seq.{set_out}
 use Rattle.card.specs.declared.place.Block.{Block}
 use Rattle.card.specs.declared.place.Cell.{Cell}
 use Rattle.card.specs.Memory.{
@@ -54,7 +34,7 @@ pub addresses_apart : {block other : Block} {cell cell' : Cell}
     → other ≢ block → word_address other cell' ≢ word_address block cell
 addresses_apart in_block in_other apart same = apart (same_block (omega arith))
 
--- ---- a store on each way that the code takes
+-- ---- a store
 
 pub length_with_cell : (ram : List ℕ) (block : Block) (cell : Cell) (word : ℕ)
     → length (with_cell ram block cell word) ≡ length ram
@@ -83,44 +63,3 @@ module _ (ram : List ℕ) (block : Block) (cell : Cell) (word : ℕ) where
   pub with_cell_past : block_cells ≤ cell.0 → ram ≡ with_cell ram block cell word
   unfolding with_cell
   with_cell_past past = rw (le-ltb cell.0 block_cells past)
-
-  -- memory ends before the cell
-  pub with_cell_out : length ram ≤ word_address block cell → ram ≡ with_cell ram block cell word
-  with_cell_out out =
-      elim (dec_lt cell.0 block_cells) [
-        | yes inside ↦
-            sym (with_cell_inside inside ∙ set_out ram (word_address block cell) word out)
-        | no past ↦ with_cell_past (omega arith)
-      ]
-
--- ---- one block alone, which is what is lent: its cells are those of block 0
-
-module _ (cells : List ℕ) (cell : Cell) (word : ℕ) where
-  pub alone_inside : cell.0 < block_cells
-      → set cells cell.0 word ≡ with_cell cells (the_block 0) cell word
-  alone_inside inside =
-      let alone : word_address (the_block 0) cell ≡ cell.0 = omega arith in
-      sym (with_cell_inside cells (the_block 0) cell word inside ∙ rw alone)
-
-  pub alone_past : block_cells ≤ cell.0 → cells ≡ with_cell cells (the_block 0) cell word
-  alone_past past = with_cell_past cells (the_block 0) cell word past
-
-  pub alone_out : length cells ≤ cell.0 → cells ≡ with_cell cells (the_block 0) cell word
-  alone_out out = with_cell_out cells (the_block 0) cell word (omega arith)
-
-pub ruleset alone = (alone_inside, alone_past, alone_out)
-
--- ---- a read
-
-module _ (ram : List ℕ) (block : Block) (cell : Cell) (address : ℕ) where
-  pub cell_inside : address ≡ word_address block cell
-      → get_or ram address 0 ≡ cell_at ram block cell
-  unfolding cell_at
-  cell_inside is = rw is
-
-  pub cell_out : address ≡ word_address block cell → length ram ≤ address
-      → 0 ≡ cell_at ram block cell
-  unfolding cell_at
-  cell_out is out = sym (get_or-eq_default ram 0 {n = word_address block cell} (rw is at out))
-
-pub ruleset cell_reads = (cell_inside, cell_out)

@@ -7,6 +7,7 @@ use Rattle.std.proofs.Common.{
   ◌-◌,
   ◌<◌,
   ◌≤◌,
+  Bool,
   cond,
   ◌&&◌,
   leb,
@@ -16,6 +17,9 @@ use Rattle.std.proofs.Common.{
   take,
   drop,
   sym,
+  Option,
+  true,
+  false,
   refl,
   ◌∙◌,
   arith,
@@ -25,8 +29,12 @@ use Rattle.std.proofs.Common.{
   ne_eqb,
   le-leb,
 }
+use Rattle.std.specs.Option.{is_some}
 use native.Mathlib.Decide.{ℕ_discrete, dec_le, dec_lt}
 use borrow.Author.Tests.{lt-leb}
+use Rattle.refusals.specs.declared.Refusal.{Refusal}
+use Rattle.refusals.specs.Number.{refusal_in}
+use Rattle.refusals.proofs.NumberLaws.{some_refused, none_refused}
 use Rattle.card.specs.declared.place.Block.{Block}
 use Rattle.card.specs.Memory.{block_cells, words_in, the_cell, is_block, word_address}
 use Rattle.card.specs.Part.{part_refusal, shown_part}
@@ -102,28 +110,32 @@ module _ (blocks most size : ℕ) (block : Block) (count : ℕ) where
         in_block = in_block;
       }
 
-module _ (blocks most : ℕ) (ram : List ℕ) (block : Block) (count number : ℕ)
-    (asked : number ≡ part_refusal blocks most (length ram) block count) where
-  pub part_refused : (number ≡ 0 → ⊥) → [] ≡ shown_part blocks most ram block count
+module _ (blocks most : ℕ) (ram : List ℕ) (block : Block) (count : ℕ) (perhaps : Option Refusal)
+    (asked : refusal_in perhaps ≡ part_refusal blocks most (length ram) block count)
+    (answer : Bool) (told : answer ≡ is_some perhaps) where
+  pub part_refused : answer ≡ true → [] ≡ shown_part blocks most ram block count
   unfolding shown_part
   part_refused refused =
-      rw (ne_eqb (part_refusal blocks most (length ram) block count) 0 (rw asked at refused))
+      rw (ne_eqb (part_refusal blocks most (length ram) block count) 0
+      (λ none. some_refused perhaps (sym told ∙ refused) (asked ∙ none)))
 
-  module _ (start : ℕ) where
-    pub part_ends : number ≡ 0 → start ≡ word_address block (the_cell 0)
-        → start + count ≤ length ram
-    part_ends none starts =
-        omega (arith, shown blocks most (length ram) block count (sym asked ∙ none))
+  module _ (start words : ℕ) (none : answer ≡ false)
+      (starts : start ≡ word_address block (the_cell 0)) (counted : words ≡ count) where
+    shown_by : part_refusal blocks most (length ram) block count ≡ 0
+    shown_by = sym asked ∙ none_refused perhaps (sym told ∙ none)
 
-    pub part_shown : number ≡ 0 → start ≡ word_address block (the_cell 0)
-        → take (start + count - start) (drop start ram) ≡ shown_part blocks most ram block count
+    pub part_ends : start + words ≤ length ram
+    part_ends = omega (arith, shown blocks most (length ram) block count shown_by)
+
+    pub part_shown : take (start + words - start) (drop start ram)
+        ≡ shown_part blocks most ram block count
     unfolding shown_part
-    part_shown none starts =
-        let long : start + count - start ≡ count = omega arith in
+    part_shown =
+        let long : start + words - start ≡ count = omega arith in
         rw (
           long,
           starts,
-          eq-eqb (part_refusal blocks most (length ram) block count) 0 (sym asked ∙ none),
+          eq-eqb (part_refusal blocks most (length ram) block count) 0 shown_by,
         )
 
 pub ruleset parts = (part_refused, part_ends, part_shown)

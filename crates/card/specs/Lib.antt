@@ -1,5 +1,6 @@
 -- Card memory. Read `Memory` first.
 pub mod Memory
+pub mod Lent
 pub mod TableWord
 pub mod StateWord
 pub mod Time

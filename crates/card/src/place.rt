@@ -3,10 +3,10 @@
 ghost use Rattle.std.specs.Prelude.{◌≡◌};
 ghost use Rattle.card.specs.Memory.{word_address};
 
-#[derive(Clone, Copy)]
+#[derive(Clone, Copy, PartialEq, Eq)]
 pub struct Block(pub u16);
 
-#[derive(Clone, Copy)]
+#[derive(Clone, Copy, PartialEq, Eq)]
 pub struct Cell(pub u16);
 
 pub const BLOCK_CELLS: usize = 64;
@@ -22,5 +22,5 @@ pub const CARD_WORDS: usize = 16384;
 pub fn word_address(block: Block, cell: Cell) -> usize
     ensures { result ≡ word_address block cell }
 {
-    BLOCK_CELLS * (block.0 as usize) + (cell.0 as usize)
+    BLOCK_CELLS * usize::from(block.0) + usize::from(cell.0)
 }

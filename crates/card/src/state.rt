@@ -12,12 +12,14 @@ pub struct State {
     pub broadcast: bool,
     pub second: bool,
     pub busy: bool,
+    // any number, since a caller may hand in any
     pub code: u16,
     pub words: u16,
 }
 
 impl State {
     // The code has three bits and the words have six.
+    #[tactic(auto, unfolding(crate::specs::StateWord::state_word))]
     pub fn word(self) -> u16
         ensures { result ≡ state_word self }
     {

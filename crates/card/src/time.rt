@@ -6,10 +6,5 @@ ghost use Rattle.card.specs.Time.{ticks_of};
 pub fn ticks(opening: u32, closing: u32) -> u16
     ensures { result ≡ ticks_of opening closing }
 {
-    let elapsed = std::num::wrapping_sub_u32(closing, opening);
-    if elapsed < 65535 {
-        elapsed as u16
-    } else {
-        65535
-    }
+    closing.wrapping_sub(opening).min(65535) as u16
 }

@@ -4,7 +4,7 @@ use Rattle.std.proofs.Common.{◌≡◌, ℕ, List, Option, Result, ap, ap₂}
 use Rattle.rules.proofs.Determined.{Determined, DeterminedAs, same}
 use Rattle.refusals.specs.declared.Refusal.{Refusal}
 use Rattle.refusals.specs.Number.{refused, outcome_in}
-use Rattle.refusals.proofs.NumberLaws.{same_answer}
+use Rattle.refusals.proofs.NumberLaws.{same_refusal, same_answer}
 use Rattle.controller.specs.declared.state.Came.{Came}
 use Rattle.controller.specs.declared.state.Controller.{Controller}
 use Rattle.controller.specs.declared.start.Given.{Given}
@@ -110,7 +110,8 @@ silence κs arguments result result' exit exit' is is' =
 
 pub given_refusal :
     Determined 1 given_refusal_kinds.ps given_refusal_kinds.r given_refusal_reads.Post
-given_refusal κs arguments result result' exit exit' = same
+given_refusal κs arguments result result' exit exit' one other =
+    same_refusal result result' (same one other)
 
 pub given_part :
     DeterminedAs 1 given_part_kinds.ps given_part_kinds.r given_part_reads.Post (List ℕ)

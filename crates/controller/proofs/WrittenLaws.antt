@@ -14,7 +14,6 @@ use Rattle.card.specs.Memory.{block_cells, the_cell, word_address, cell_at}
 use Rattle.card.proofs.MemoryLaws.{length_with_cell}
 use Rattle.card.proofs.Frame.{cell_keeps}
 use Rattle.formats.specs.declared.code.Coded.{Coded}
-use Rattle.formats.specs.declared.code.Coded.TheVariants.{Format, Lacking}
 use Rattle.formats.specs.Row.{highest_cell}
 use Rattle.formats.specs.Code.{coded_by}
 use Rattle.exchange.specs.declared.judge.WordAct.{WordAct}
@@ -28,7 +27,7 @@ use Rattle.exchange.specs.declared.state.Exchange.{Exchange}
 use Rattle.controller.specs.declared.state.OpenMessage.{OpenMessage}
 use Rattle.controller.specs.Control.{block_in, line_in, code_in}
 use Rattle.controller.specs.State.{Desk}
-use Rattle.controller.specs.Start.{Started, may_start, starting, starting_by, start_step}
+use Rattle.controller.specs.Start.{Started, may_start, starting_by, start_step}
 use Rattle.controller.specs.Heard.{
   Heard,
   ended,
@@ -125,9 +124,10 @@ pub silence_writes_nothing : (line : Bool) (old : Desk)
 unfolding silence_step
 silence_writes_nothing line old = met_silent old.state.message line old
 
-code_writes_nothing : (coded : Coded) (old : Desk) → (starting_by coded old).desk.ram ≡ old.ram
-code_writes_nothing (Format row broadcast) old = refl
-code_writes_nothing Lacking old = refl
+code_writes_nothing : (coded : Option Coded) (old : Desk)
+    → (starting_by coded old).desk.ram ≡ old.ram
+code_writes_nothing (Some coded) old = refl
+code_writes_nothing None old = refl
 
 pub start_writes_nothing : (old : Desk) → (start_step old).desk.ram ≡ old.ram
 unfolding start_step

@@ -3,7 +3,6 @@ use Rattle.std.specs.Prelude.{Bool, false, cond, ◌&&◌, ℕ, ◌-◌, leb, Op
 use Rattle.card.specs.Memory.{the_cell, cell_at}
 use Rattle.formats.specs.declared.row.Row.{Row}
 use Rattle.formats.specs.declared.code.Coded.{Coded}
-use Rattle.formats.specs.declared.code.Coded.TheVariants.{Format, Lacking}
 use Rattle.formats.specs.Code.{coded_by}
 use Rattle.exchange.specs.declared.order.Order.{Order}
 use Rattle.exchange.specs.Order.{format_for}
@@ -54,9 +53,9 @@ starting order old =
     (desk (with_order order old.state) old.ram)
 
 -- 14 for a code that the table lacks
-abbrev pub starting_by : Coded → Desk → Started
-starting_by (Format row broadcast) old = starting (order_in row broadcast old) old
-starting_by Lacking old = started_as 14 None old
+abbrev pub starting_by : Option Coded → Desk → Started
+starting_by (Some coded) old = starting (order_in coded.row coded.broadcast old) old
+starting_by None old = started_as 14 None old
 
 -- where none may start, nothing is given and nothing changes
 unfoldable pub start_step : Desk → Started

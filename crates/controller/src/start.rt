@@ -10,7 +10,6 @@ use card::memory;
 use card::place::{Block, Cell};
 use exchange::order::Order;
 use formats::code;
-use formats::code::Coded;
 use formats::row::Row;
 use refusals::Refusal;
 
@@ -60,11 +59,8 @@ impl Controller {
         if !self.due || self.message.is_some() || self.count == 0 {
             return Ok(None);
         }
-        let coded = code::coded_by(control::code(self.control));
-        let Coded::Format { row, broadcast } = coded else {
-            return Err(Refusal::Format);
-        };
-        let order = self.order_in(ram, row, broadcast);
+        let coded = code::coded_by(control::code(self.control)).ok_or(Refusal::Format)?;
+        let order = self.order_in(ram, coded.row, coded.broadcast);
         self.open(order);
         Ok(Some(Given {
             block: control::block(self.control),

@@ -10,9 +10,11 @@ use Rattle.std.proofs.Common.{
   ◌≤◌,
   ◌≢◌,
   Bool,
+  Option,
+  Some,
+  None,
   eqb,
   List,
-  Some,
   Result,
   Ok,
   Err,
@@ -31,7 +33,6 @@ use Rattle.recording.specs.declared.seen.Seen.{Seen}
 use Rattle.recording.specs.Value.{Valued, valued_at}
 use Rattle.recording.specs.Value as shared
 use Rattle.formats.specs.declared.code.Coded.{Coded}
-use Rattle.formats.specs.declared.code.Coded.TheVariants.{Format, Lacking}
 use Rattle.formats.specs.Code.{coded_by}
 use Rattle.lines.specs.Written.{put, line_room, line_written}
 use Rattle.pieces.specs.declared.stop.Stop.{Stop}
@@ -56,10 +57,10 @@ use Rattle.desk.specs.AsCoded.Held.{run_of, passed_of, answer_in}
 
 -- ---- what is refused changes nothing
 
-code_refused : (coded : Coded) (old : Desk) → ((starting_by coded old).refusal ≡ 0 → ⊥)
+code_refused : (coded : Option Coded) (old : Desk) → ((starting_by coded old).refusal ≡ 0 → ⊥)
     → (starting_by coded old).desk ≡ old
-code_refused (Format row broadcast) old other = absurd (other refl)
-code_refused Lacking old other = refl
+code_refused (Some coded) old other = absurd (other refl)
+code_refused None old other = refl
 
 start_refused : (old : Desk) → ((start_step old).refusal ≡ 0 → ⊥) → (start_step old).desk ≡ old
 unfolding start_step
@@ -89,10 +90,10 @@ refused_changes_nothing bytes (Shared field) old other =
 
 -- ---- a refusal is 14: none waits for bytes
 
-code_by_14 : (coded : Coded) (old : Desk)
+code_by_14 : (coded : Option Coded) (old : Desk)
     → may_go_on (starting_by coded old).refusal ≡ eqb (starting_by coded old).refusal 0
-code_by_14 (Format row broadcast) old = refl
-code_by_14 Lacking old = refl
+code_by_14 (Some coded) old = refl
+code_by_14 None old = refl
 
 start_by_14 : (old : Desk) → may_go_on (start_step old).refusal ≡ eqb (start_step old).refusal 0
 unfolding start_step

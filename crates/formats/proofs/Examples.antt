@@ -9,9 +9,8 @@ use Rattle.formats.specs.declared.row.Row.TheVariants.{
   ModeWithWord,
   ModeForWord,
 }
-use Rattle.formats.specs.declared.code.Coded.TheVariants.{Format, Lacking}
 use Rattle.formats.specs.Row.{columns, format_of, status_cell, reply_cell, last_cell, data_cell}
-use Rattle.formats.specs.Code.{code_table, coded_by}
+use Rattle.formats.specs.Code.{format, lacking, code_table, coded_by}
 
 row_0_of_32_words : format_of ToTerminal false 32 ≡ columns 33 32 true 0 false
 unfolding format_of
@@ -47,10 +46,10 @@ data_follow_the_commands_or_the_status :
 unfolding format_of
 data_follow_the_commands_or_the_status = (refl, refl, refl)
 
-code_12_is_row_4_to_all : coded_by 12 ≡ Format ModeWithWord true
+code_12_is_row_4_to_all : coded_by 12 ≡ format ModeWithWord true
 unfolding coded_by code_table
 code_12_is_row_4_to_all = refl
 
-code_15_is_lacking : coded_by 15 ≡ Lacking
+code_15_is_lacking : coded_by 15 ≡ lacking
 unfolding coded_by code_table
 code_15_is_lacking = refl

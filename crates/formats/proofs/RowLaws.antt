@@ -1,5 +1,4 @@
--- The laws of `specs/Row.antt`: a row as the code finds it. Assumes nothing.
-use mathlib.Core.Path.{◌≡◌}
+-- The laws of `specs/Row.antt`: how many words a row gives and gets. Assumes nothing.
 use mathlib.Core.Bool.{Bool}
 use Prim.Native.Nat.{ℕ, ◌≤◌}
 use native.Mathlib.Omega.{arith}
@@ -12,14 +11,7 @@ use Rattle.formats.specs.declared.row.Row.TheVariants.{
   ModeWithWord,
   ModeForWord,
 }
-use Rattle.formats.specs.declared.row.Format.{Format}
 use Rattle.formats.specs.Row.{format_of, last_cell, highest_cell}
-
--- an arm: what it makes is the row that it stands for
-pub row_is : (format : Format) (row named : Row) (broadcast : Bool) (n count : ℕ)
-    → row ≡ named → n ≡ count → format ≡ format_of named broadcast n
-    → format ≡ format_of row broadcast count
-row_is format row named broadcast n count same counted made = rw (same, ← counted) made
 
 -- ---- bounds: a command and 32 words are given at the most, and 32 words come back
 

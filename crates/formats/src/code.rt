@@ -1,16 +1,14 @@
 // The format codes: bits 2 to 0 are the row, bit 3 is X, broadcast, which four rows alone may have.
 ghost use Rattle.std.specs.Prelude.{◌≡◌};
-ghost use Rattle.formats.specs.declared.code.Coded.TheVariants.{Format};
-ghost use Rattle.formats.specs.Code.{coded_by};
+ghost use Rattle.formats.specs.Code.{format, coded_by};
 
 use crate::row::Row;
 
 // What a code stands for.
 #[derive(Clone, Copy)]
-pub enum Coded {
-    Format { row: Row, broadcast: bool },
-    // the table lacks it
-    Lacking,
+pub struct Coded {
+    pub row: Row,
+    pub broadcast: bool,
 }
 
 // The columns of the table: to one station, or to all.
@@ -18,17 +16,19 @@ const ALONE: bool = false;
 
 const BROADCAST: bool = true;
 
-fn format(row: Row, broadcast: bool) -> Coded
-    ensures { result ≡ Format row broadcast }
+// A code of the table.
+fn format(row: Row, broadcast: bool) -> Option<Coded>
+    ensures { result ≡ format row broadcast }
 {
-    Coded::Format {
-        row: row,
-        broadcast: broadcast,
-    }
+    Some(Coded { row, broadcast })
 }
 
+// A code that the table lacks.
+const LACKING: Option<Coded> = None;
+
 // The table's row of a code, code by code.
-pub fn coded_by(code: u16) -> Coded
+#[tactic(auto, unfolding(crate::specs::Code::coded_by, crate::specs::Code::code_table))]
+pub fn coded_by(code: u16) -> Option<Coded>
     ensures { result ≡ coded_by code }
 {
     match code {
@@ -38,13 +38,13 @@ pub fn coded_by(code: u16) -> Coded
         3 => format(Row::ModeAlone, ALONE), // 0011
         4 => format(Row::ModeWithWord, ALONE), // 0100
         5 => format(Row::ModeForWord, ALONE), // 0101
-        6 => Coded::Lacking, // 0110
-        7 => Coded::Lacking, // 0111
+        6 => LACKING, // 0110
+        7 => LACKING, // 0111
         8 => format(Row::ToTerminal, BROADCAST), // 1000
-        9 => Coded::Lacking, // 1001
+        9 => LACKING, // 1001
         10 => format(Row::Between, BROADCAST), // 1010
         11 => format(Row::ModeAlone, BROADCAST), // 1011
         12 => format(Row::ModeWithWord, BROADCAST), // 1100
-        _ => Coded::Lacking, // 1101, 1110, 1111
+        _ => LACKING, // 1101, 1110, 1111
     }
 }

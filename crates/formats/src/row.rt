@@ -6,7 +6,7 @@ ghost use Rattle.formats.specs.Row.{columns, format_of};
 use bus::command;
 
 // A row, in the order of the table.
-#[derive(Clone, Copy)]
+#[derive(Clone, Copy, PartialEq, Eq)]
 pub enum Row {
     // data from the controller to a terminal
     ToTerminal,
@@ -41,17 +41,18 @@ fn columns(given: u16, behind: u16, status: bool, reply: u16, last: bool) -> For
     ensures { result ≡ columns given behind status reply last }
 {
     Format {
-        given: given,
-        behind: behind,
-        status: status,
-        reply: reply,
-        last: last,
+        given,
+        behind,
+        status,
+        reply,
+        last,
     }
 }
 
 impl Row {
     // The table. C is a command, S a status, D data, `/` a silence; what has `*` is not there in
     // broadcast; n is what the command says that speaks of the data.
+    #[tactic(auto, using(bus::proofs::CommandLaws::words_at_most), unfolding(crate::specs::Row::format_of))]
     pub fn format(self, broadcast: bool, command: u16) -> Format
         ensures { result ≡ format_of self broadcast (words_of command) }
     {

@@ -18,10 +18,6 @@ use Rattle.message.proofs.state.OpenMessage.further.Kinds as further_kinds
 use Rattle.message.proofs.state.OpenMessage.further.Reads as further_reads
 use Rattle.message.proofs.state.moved_message.Kinds as moved_message_kinds
 use Rattle.message.proofs.state.moved_message.Reads as moved_message_reads
-use Rattle.message.proofs.state.has_second.Kinds as has_second_kinds
-use Rattle.message.proofs.state.has_second.Reads as has_second_reads
-use Rattle.message.proofs.state.second_of.Kinds as second_of_kinds
-use Rattle.message.proofs.state.second_of.Reads as second_of_reads
 
 pub asked_of : Determined 0 asked_of_kinds.ps asked_of_kinds.r asked_of_reads.Post
 asked_of κs arguments result result' exit exit' = same
@@ -50,9 +46,3 @@ further κs arguments result result' exit exit' = same
 pub moved_message :
     Determined 0 moved_message_kinds.ps moved_message_kinds.r moved_message_reads.Post
 moved_message κs arguments result result' exit exit' = same
-
-pub has_second : Determined 0 has_second_kinds.ps has_second_kinds.r has_second_reads.Post
-has_second κs arguments result result' exit exit' = same
-
-pub second_of : Determined 0 second_of_kinds.ps second_of_kinds.r second_of_reads.Post
-second_of κs arguments result result' exit exit' = same

@@ -1,5 +1,6 @@
 -- The laws of `specs/Words.antt` and `specs/Silence.antt`, as the code comes to each decision.
 -- Assumes nothing.
+use Rattle.std.specs.Option.{unwrap_or}
 use mathlib.Core.Path.{◌≡◌}
 use mathlib.Core.Bool.{Bool, true, false, not, ◌&&◌, ◌||◌, beq}
 use Prim.Native.Nat.{ℕ}
@@ -23,7 +24,6 @@ use Rattle.message.specs.declared.state.Stage.TheVariants.{
   Skipping,
 }
 use Rattle.message.specs.declared.state.OpenMessage.{OpenMessage}
-use Rattle.message.specs.Message.{second_of}
 use Rattle.message.specs.Words.{own_command}
 use Rattle.message.specs.Words.{
   in_data,
@@ -82,7 +82,7 @@ module _ (act : WordAct) (stage : Stage) (station : ℕ) (asked : Asked) (messag
   word_in_second_command is same = rw is same
 
   pub word_in_awaiting_status : (second : ℕ) → stage ≡ AwaitingStatus
-      → second ≡ second_of message.second → act ≡ in_awaiting_status second word
+      → second ≡ unwrap_or message.second 0 → act ≡ in_awaiting_status second word
       → act ≡ word_in_stage stage station asked message word
   word_in_awaiting_status second is is_second_lem same = rw (is, ← is_second_lem) same
 

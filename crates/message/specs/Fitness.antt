@@ -1,6 +1,6 @@
 -- Refusal 4: which open messages are fit. Document 01's list, clause by clause; what is not on the
 -- list is free. Definitions only. Assumes nothing.
-use Rattle.std.specs.Prelude.{Bool, true, not, ◌&&◌, ◌||◌, ℕ, eqb, leb}
+use Rattle.std.specs.Prelude.{Bool, true, not, ◌&&◌, ◌||◌, ℕ, eqb, leb, None, Option, Some, is_some}
 use Rattle.bus.specs.Command.{address_of, is_broadcast}
 use Rattle.card.specs.Memory.{is_block}
 use Rattle.message.specs.declared.state.Stage.{Stage}
@@ -10,26 +10,21 @@ use Rattle.message.specs.declared.state.Stage.TheVariants.{
   AwaitingStatus,
   Skipping,
 }
-use Rattle.message.specs.declared.state.Second.{Second}
-use Rattle.message.specs.declared.state.Second.TheVariants.{Absent, Command}
 use Rattle.message.specs.declared.state.OpenMessage.{OpenMessage}
-use Rattle.message.specs.declared.state.Message.{Message}
-use Rattle.message.specs.declared.state.Message.TheVariants.{Idle, Open}
-use Rattle.message.specs.Message.{has_second}
 use Rattle.message.specs.Asked.{asks}
 use Rattle.message.specs.Words.{is_second}
 
 -- after a second command only data receives, that command as rule 6 takes it
-abbrev pub fit_second : Second → ℕ → ℕ → Bool → Bool
-fit_second Absent station command receive = true
-fit_second (Command value) station command receive = receive && is_second station command value
+abbrev pub fit_second : Option ℕ → ℕ → ℕ → Bool → Bool
+fit_second None station command receive = true
+fit_second (Some value) station command receive = receive && is_second station command value
 
 -- a stage that its command can reach: skipping exactly for illegal commands; the second command and
 -- the awaiting only with a second command, and no words before the answer
-abbrev pub fit_stage : Stage → Bool → Second → ℕ → Bool
+abbrev pub fit_stage : Stage → Bool → Option ℕ → ℕ → Bool
 fit_stage Data illegal second taken = not illegal
-fit_stage SecondCommand illegal second taken = not illegal && has_second second && eqb taken 0
-fit_stage AwaitingStatus illegal second taken = not illegal && has_second second && eqb taken 0
+fit_stage SecondCommand illegal second taken = not illegal && is_some second && eqb taken 0
+fit_stage AwaitingStatus illegal second taken = not illegal && is_some second && eqb taken 0
 fit_stage Skipping illegal second taken = illegal
 
 -- on a card of so many blocks: the open command's address is the station or 31; its block and table
@@ -43,6 +38,6 @@ fit_open blocks station message =
     && fit_second message.second station message.command (asks message).receive
     && fit_stage message.stage (asks message).illegal message.second message.taken
 
-abbrev pub fit_message : ℕ → Message → ℕ → Bool
-fit_message blocks Idle station = true
-fit_message blocks (Open message) station = fit_open blocks station message
+abbrev pub fit_message : ℕ → Option OpenMessage → ℕ → Bool
+fit_message blocks None station = true
+fit_message blocks (Some message) station = fit_open blocks station message

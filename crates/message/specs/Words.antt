@@ -1,6 +1,7 @@
 -- Words of an open message: document 01's rules 1 to 8 in their order. What is to be done is
 -- decided here and done in `WordStep`. Definitions only. Assumes nothing.
-use Rattle.std.specs.Prelude.{Bool, cond, not, ◌&&◌, ◌||◌, ℕ, ◌+◌, ◌%◌, eqb, leb}
+use Rattle.std.specs.Prelude.{Bool, cond, not, ◌&&◌, ◌||◌, ℕ, ◌+◌, ◌%◌, eqb, leb, is_some}
+use Rattle.std.specs.Option.{unwrap_or}
 use Rattle.std.specs.Bool.{beq}
 use Rattle.bus.specs.declared.word.Word.{Word}
 use Rattle.bus.specs.Command.{address_of, mode_code_of, is_transmit, is_broadcast, is_mode}
@@ -24,7 +25,6 @@ use Rattle.message.specs.declared.state.Stage.TheVariants.{
   Skipping,
 }
 use Rattle.message.specs.declared.state.OpenMessage.{OpenMessage}
-use Rattle.message.specs.Message.{has_second, second_of}
 use Rattle.message.specs.Asked.{keeps_back}
 
 -- ---- own commands
@@ -67,7 +67,7 @@ in_data station asked message word =
     (cond (not word.joined) (Fault 3)
     (cond (leb asked.takes message.taken) (Fault 4)
     (cond
-    (word.sync && asked.receive && eqb message.taken 0 && not (has_second message.second))
+    (word.sync && asked.receive && eqb message.taken 0 && not (is_some message.second))
     (first_command station message.command word.value)
     (cond word.sync (Fault 6)
     (cond (keeps_back asked message)
@@ -90,7 +90,7 @@ abbrev pub word_in_stage : Stage → ℕ → Asked → OpenMessage → Word → 
 word_in_stage Data station asked message word = in_data station asked message word
 word_in_stage SecondCommand station asked message word = in_second_command word
 word_in_stage AwaitingStatus station asked message word =
-    in_awaiting_status (second_of message.second) word
+    in_awaiting_status (unwrap_or message.second 0) word
 word_in_stage Skipping station asked message word = Ignore
 
 -- an own command on the other line, or unjoined on the same line, supersedes; other words on the

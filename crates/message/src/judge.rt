@@ -15,7 +15,6 @@ ghost use Rattle.message.specs.Words.{
 ghost use Rattle.message.specs.Silence.{silence_in_stage, on_silence};
 
 use crate::asked::Asked;
-use crate::state;
 use crate::state::{OpenMessage, Stage};
 use bus::command;
 use bus::word::Word;
@@ -115,7 +114,7 @@ fn in_data(station: u16, asked: Asked, message: OpenMessage, word: Word) -> Word
     let taken = message.taken;
     let takes = asked.takes;
     let second = message.second;
-    let answered = state::has_second(second);
+    let answered = second.is_some();
     let first = sync & asked.receive & (taken == 0) & !answered;
     let kept = message.busy & asked.yields;
     if unsound {
@@ -186,10 +185,7 @@ fn word_in_stage(
     match stage {
         Stage::Data => in_data(station, asked, message, word),
         Stage::SecondCommand => in_second_command(word),
-        Stage::AwaitingStatus => {
-            let second = message.second;
-            in_awaiting_status(state::second_of(second), word)
-        }
+        Stage::AwaitingStatus => in_awaiting_status(message.second.unwrap_or(0), word),
         Stage::Skipping => WordAct::Ignore,
     }
 }

@@ -1,6 +1,6 @@
 // An open message.
 ghost use Rattle.std.specs.Prelude.{◌≡◌};
-ghost use Rattle.message.specs.Message.{further, moved_message, has_second, second_of};
+ghost use Rattle.message.specs.Message.{further, moved_message};
 
 use card::place::Block;
 
@@ -15,13 +15,6 @@ pub enum Stage {
     AwaitingStatus,
     // an illegal command: words are skipped until silence
     Skipping,
-}
-
-// The second command of a transfer between two stations, kept until the end.
-#[derive(Clone, Copy)]
-pub enum Second {
-    Absent,
-    Command(u16),
 }
 
 // An open message: what its opening caught and fixed, and how far it has come.
@@ -42,19 +35,14 @@ pub struct OpenMessage {
     pub opened: u32,
     // words taken
     pub taken: u16,
-    pub second: Second,
+    // the second command of a transfer between two stations, kept until the end
+    pub second: Option<u16>,
     pub stage: Stage,
-}
-
-#[derive(Clone, Copy)]
-pub enum Message {
-    Idle,
-    Open(OpenMessage),
 }
 
 impl OpenMessage {
     // The same message, further on.
-    pub fn further(self, stage: Stage, second: Second, taken: u16) -> OpenMessage
+    pub fn further(self, stage: Stage, second: Option<u16>, taken: u16) -> OpenMessage
         ensures { result ≡ further stage second taken self }
     {
         let block = self.block;
@@ -76,33 +64,15 @@ impl OpenMessage {
 }
 
 // The host has set the table block: an open message remembers it.
-pub fn moved_message(message: Message) -> Message
+pub fn moved_message(message: Option<OpenMessage>) -> Option<OpenMessage>
     ensures { result ≡ moved_message message }
 {
     match message {
-        Message::Idle => Message::Idle,
-        Message::Open(held) => {
+        None => None,
+        Some(held) => {
             let mut next = held;
             next.moved = true;
-            Message::Open(next)
+            Some(next)
         }
-    }
-}
-
-pub fn has_second(second: Second) -> bool
-    ensures { result ≡ has_second second }
-{
-    match second {
-        Second::Absent => false,
-        Second::Command(_) => true,
-    }
-}
-
-pub fn second_of(second: Second) -> u16
-    ensures { result ≡ second_of second }
-{
-    match second {
-        Second::Absent => 0,
-        Second::Command(value) => value,
     }
 }

@@ -22,8 +22,6 @@ use Rattle.std.specs.Prelude.{
   Some,
   None,
 }
-use Rattle.message.specs.declared.state.Second.{Second}
-use Rattle.message.specs.declared.state.Second.TheVariants.{Absent, Command}
 use Rattle.terminal.specs.State.{Card}
 use Rattle.formats.specs.declared.row.Row.{Row}
 use Rattle.formats.specs.declared.row.Row.TheVariants.{
@@ -120,13 +118,13 @@ abbrev pub most_turns : ℕ
 most_turns = 8
 
 -- commands, then data: only between two terminals is the second word a command
-abbrev pub second_given : Row → ℕ → Second
-second_given ToTerminal value = Absent
-second_given FromTerminal value = Absent
-second_given Between value = Command value
-second_given ModeAlone value = Absent
-second_given ModeWithWord value = Absent
-second_given ModeForWord value = Absent
+abbrev pub second_given : Row → ℕ → Option ℕ
+second_given ToTerminal value = None
+second_given FromTerminal value = None
+second_given Between value = Some value
+second_given ModeAlone value = None
+second_given ModeWithWord value = None
+second_given ModeForWord value = None
 
 unfoldable pub segment_of : Order → List ℕ → Segment
 segment_of order words =

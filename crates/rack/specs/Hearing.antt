@@ -1,8 +1,7 @@
 -- What a terminal and the controller make of a segment and of the silence behind it, by their own
 -- steps. Definitions only. Assumes nothing.
-use Rattle.std.specs.Prelude.{Bool, List, [], ◌∷◌, ℕ}
+use Rattle.std.specs.Prelude.{Bool, List, [], ◌∷◌, ℕ, None}
 use Rattle.bus.specs.declared.word.Word.{Word}
-use Rattle.message.specs.declared.state.Second.TheVariants.{Absent}
 use Rattle.terminal.specs.declared.state.Answer.{Answer}
 use Rattle.terminal.specs.declared.state.Answer.TheVariants.{Replied, QueueWord}
 use Rattle.terminal.specs.State.{Card}
@@ -34,7 +33,7 @@ turn_of line stamps spoken old =
 -- the values of a reply as a segment: status first
 abbrev pub said_by : ℕ → List ℕ → Spoken
 said_by station [] = Nothing
-said_by station (status ∷ words) = Said station (segment status Absent words)
+said_by station (status ∷ words) = Said station (segment status None words)
 
 -- what a terminal says of an answer
 unfoldable pub said_in : Answer → Card → Spoken

@@ -1,18 +1,16 @@
 -- A segment: what is said at once, by whom, and the words that the others hear. On a sound bus all
 -- are sound, the first unjoined and the others joined; commands and statuses have command sync.
 -- Definitions only. Assumes nothing.
-use Rattle.std.specs.Prelude.{Bool, true, false, cond, List, [], ◌∷◌, ℕ, suc, eqb}
+use Rattle.std.specs.Prelude.{Bool, true, false, cond, List, [], ◌∷◌, ℕ, suc, eqb, None, Option, Some}
 use Rattle.bus.specs.declared.word.Word.{Word}
-use Rattle.message.specs.declared.state.Second.{Second}
-use Rattle.message.specs.declared.state.Second.TheVariants.{Absent, Command}
 
 -- a command or a status, perhaps a second command, and data words
 pub record Segment : Type 0 where
   pub first : ℕ
-  pub second : Second
+  pub second : Option ℕ
   pub words : List ℕ
 
-abbrev pub segment : ℕ → Second → List ℕ → Segment
+abbrev pub segment : ℕ → Option ℕ → List ℕ → Segment
 segment first second words = record { first = first; second = second; words = words }
 
 -- who says it: nobody, the controller, or the terminal of a station
@@ -51,9 +49,9 @@ data_words line time place [] = []
 data_words line time place (value ∷ values) =
     data_word line value (time place) ∷ data_words line time (suc place) values
 
-abbrev pub behind_first : Bool → (ℕ → ℕ) → Second → List ℕ → List Word
-behind_first line time Absent values = data_words line time 1 values
-behind_first line time (Command value) values =
+abbrev pub behind_first : Bool → (ℕ → ℕ) → Option ℕ → List ℕ → List Word
+behind_first line time None values = data_words line time 1 values
+behind_first line time (Some value) values =
     command_word line true value (time 1) ∷ data_words line time 2 values
 
 abbrev pub words_on : Bool → (ℕ → ℕ) → Segment → List Word

@@ -10,8 +10,7 @@ use borrow.Author.Tests.{eqb-false}
 use Rattle.bus.specs.declared.kind.Kind.TheVariants.{Receive}
 use Rattle.bus.specs.Command.{address_of, mode_code_of}
 use Rattle.bus.specs.Kind.{kind_of}
-use Rattle.formats.specs.declared.code.Coded.TheVariants.{Format}
-use Rattle.formats.specs.Code.{coded_by}
+use Rattle.formats.specs.Code.{format, coded_by}
 use Rattle.exchange.specs.declared.order.Order.{Order}
 use Rattle.controller.specs.Control.{line_in, code_in}
 use Rattle.controller.specs.Start.{order_in, starting}
@@ -65,7 +64,7 @@ record AskedIn (case : Case) : Type 0 where
 asked_in : {case : Case}
     → whole_desk (rack_of case).desk ≡ true
     → order_in case.row case.broadcast (rack_of case).desk ≡ order_of case
-    → coded_by (code_in (rack_of case).desk.state.control) ≡ Format case.row case.broadcast
+    → coded_by (code_in (rack_of case).desk.state.control) ≡ format case.row case.broadcast
     → FitOrder (order_of case)
     → AllAddressed case.row (order_of case).first (order_of case).second (five ∷ nine ∷ [])
     → ReadyFor (line_in (rack_of case).desk.state.control) (taken (order_of case) five) five

@@ -7,8 +7,7 @@ use borrow.Author.Tests.{eqb-false}
 use Rattle.std.proofs.Common.{Option, Some, None}
 use Rattle.formats.specs.declared.row.Row.{Row}
 use Rattle.formats.specs.declared.row.Row.TheVariants.{ToTerminal, FromTerminal, Between}
-use Rattle.formats.specs.declared.code.Coded.TheVariants.{Format}
-use Rattle.formats.specs.Code.{coded_by}
+use Rattle.formats.specs.Code.{format, coded_by}
 use Rattle.exchange.specs.declared.order.Order.{Order}
 use Rattle.controller.specs.declared.state.OpenMessage.{OpenMessage}
 use Rattle.controller.specs.Control.{line_in, code_in}
@@ -48,7 +47,7 @@ module _ (row : Row) (first second : ℕ) (old : Rack) where
   line = line_in old.desk.state.control
 
   asked_by : whole_desk old.desk ≡ true → may_start old.desk.state ≡ true
-      → coded_by (code_in old.desk.state.control) ≡ Format row false
+      → coded_by (code_in old.desk.state.control) ≡ format row false
       → order_in row false old.desk ≡ order
       → FitOrder order
       → AllAddressed row first second old.terminals

@@ -1,5 +1,6 @@
 -- The ten format codes at work: one proof over the table of `specs/Formats.antt`, at two terminals
 -- with other tables and other memories. Assumes nothing.
+use Rattle.std.proofs.Common.{None, Option, Some}
 use mathlib.Core.Path.{◌≡◌, refl}
 use mathlib.Core.Bool.{◌&&◌}
 use mathlib.Core.List.{List, [], ◌∷◌, map}

@@ -1,5 +1,6 @@
 -- What is asked of a start and of terminals, from tests that the checker computes; and what is
 -- promised of one terminal. Assumes nothing.
+use Rattle.std.proofs.Common.{None}
 use mathlib.Core.Path.{◌≡◌, ap}
 use mathlib.Core.Logic.{◌≢◌}
 use mathlib.Core.Bool.{Bool, true, false, cond}
@@ -12,12 +13,10 @@ use Rattle.rules.proofs.Clash.{clash}
 use Rattle.bus.specs.Command.{address_of, is_broadcast}
 use Rattle.card.specs.declared.place.Block.{Block}
 use Rattle.card.specs.Memory.{card_words, the_block}
-use Rattle.message.specs.declared.state.Message.TheVariants.{Idle}
 use Rattle.terminal.specs.State.{Card}
 use Rattle.terminal.specs.Fitness.{fit_card}
 use Rattle.formats.specs.declared.row.Row.{Row}
-use Rattle.formats.specs.declared.code.Coded.TheVariants.{Format}
-use Rattle.formats.specs.Code.{coded_by}
+use Rattle.formats.specs.Code.{format, coded_by}
 use Rattle.controller.specs.Control.{code_in}
 use Rattle.controller.specs.State.{Desk}
 use Rattle.controller.specs.Start.{may_start, order_in, starting, start_step}
@@ -29,13 +28,13 @@ use Rattle.rack.specs.Asked.{IsIdle, opened_for, Ready, Addressed}
 
 -- a whole memory, a message that may start, a code of the table
 pub starts_by : (row : Row) (broadcast : Bool) (old : Desk) → whole_desk old ≡ true
-    → may_start old.state ≡ true → coded_by (code_in old.state.control) ≡ Format row broadcast
+    → may_start old.state ≡ true → coded_by (code_in old.state.control) ≡ format row broadcast
     → start_action old ≡ starting (order_in row broadcast old) old
 unfolding start_action start_step
 starts_by row broadcast old whole may_start_lem coded = rw (whole, may_start_lem, coded)
 
 pub idle_by : {terminal : Card} → length terminal.ram ≡ card_words → fit_card terminal ≡ true
-    → terminal.core.message ≡ Idle → address_of terminal.core.status ≡ terminal.core.station
+    → terminal.core.message ≡ None → address_of terminal.core.status ≡ terminal.core.station
     → IsIdle terminal
 idle_by whole fit idle status =
     record {

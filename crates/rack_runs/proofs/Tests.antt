@@ -1,5 +1,6 @@
 -- What is asked of a list of terminals, from tests that the checker computes, whatever the list.
 -- Assumes nothing.
+use Rattle.std.proofs.Common.{None, Option, Some}
 use mathlib.Core.Path.{◌≡◌, refl}
 use mathlib.Core.Bool.{Bool, true, false, cond, not, ◌&&◌, ◌||◌}
 use mathlib.Core.List.{List, [], ◌∷◌}
@@ -12,13 +13,12 @@ use Rattle.rules.proofs.Clash.{clash}
 use Rattle.rules.proofs.Halves.{first_of_both, second_of_both}
 use Rattle.bus.specs.Command.{address_of}
 use Rattle.card.specs.Memory.{card_words}
-use Rattle.message.specs.declared.state.Message.{Message}
-use Rattle.message.specs.declared.state.Message.TheVariants.{Idle, Open}
 use Rattle.terminal.specs.State.{Card}
 use Rattle.terminal.specs.Fitness.{fit_card}
 use Rattle.rack.specs.Terminals.{Each, Different, OnBus, here, there}
 use Rattle.rack.specs.Asked.{IsIdle, opened_for, ReadyFor}
 use Rattle.rack_runs.proofs.Having.{idle_by, ready_by}
+use Rattle.message.specs.declared.state.OpenMessage.{OpenMessage}
 
 -- ---- each of them
 
@@ -38,13 +38,13 @@ each_by test tells (terminal ∷ terminals) passed =
 
 -- ---- idle
 
-abbrev pub has_ended : Message → Bool
-has_ended Idle = true
-has_ended (Open message) = false
+abbrev pub has_ended : Option OpenMessage → Bool
+has_ended None = true
+has_ended (Some message) = false
 
-ended_is_idle : (message : Message) → has_ended message ≡ true → message ≡ Idle
-ended_is_idle Idle ended = refl
-ended_is_idle (Open message) ended = absurd (clash (cc))
+ended_is_idle : (message : Option OpenMessage) → has_ended message ≡ true → message ≡ None
+ended_is_idle None ended = refl
+ended_is_idle (Some message) ended = absurd (clash (cc))
 
 unfoldable pub is_idle_card : Card → Bool
 is_idle_card old =

@@ -11,13 +11,6 @@ module _ {A : Type 0} where
   by_test Claim true holds fails = holds refl
   by_test Claim false holds fails = fails refl
 
-  -- two choices by one test are the same where the ways are
-  pub same_choice : {taken taken' left left' : A} (test : Bool)
-      → (test ≡ true → taken ≡ taken') → (test ≡ false → left ≡ left')
-      → cond test taken left ≡ cond test taken' left'
-  same_choice true holds fails = holds refl
-  same_choice false holds fails = fails refl
-
 -- a choice under a function
 pub choice_under : {A B : Type 0} (change : A → B) {taken left : A} {taken' left' : B}
     (test : Bool) → taken' ≡ change taken → left' ≡ change left

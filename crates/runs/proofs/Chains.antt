@@ -1,6 +1,7 @@
 -- The chain rule and what an event may write, at work on a card of four blocks: document 01's tray
 -- run, sound and broken. And claims that ask less or say more, each false by a run that the checker
 -- computes. Assumes nothing.
+use Rattle.std.proofs.Common.{None, Some}
 use mathlib.Core.Path.{◌≡◌, refl, ap}
 use mathlib.Core.Logic.{◌≢◌}
 use mathlib.Core.Bool.{true, false}
@@ -15,10 +16,8 @@ use Rattle.card.specs.declared.place.Block.{Block}
 use Rattle.card.specs.declared.place.Cell.{Cell}
 use Rattle.card.specs.Memory.{block_cells, the_block, the_cell, cell_at}
 use Rattle.card.specs.TableWord.{block_of}
-use Rattle.message.specs.declared.state.Second.TheVariants.{Absent}
 use Rattle.message.specs.declared.state.Stage.TheVariants.{Data}
 use Rattle.message.specs.declared.state.OpenMessage.{OpenMessage}
-use Rattle.message.specs.declared.state.Message.TheVariants.{Open}
 use Rattle.terminal.specs.State.{Card}
 use Rattle.terminal.specs.Event.{Event, word, read_queue, move_table, afresh}
 use Rattle.terminal.specs.Machine.{step, run}
@@ -210,7 +209,7 @@ an_event_that_does_not_close_would_differ claim =
 -- the table cell is one that a closing writes, in another block
 cells_elsewhere_would_differ :
     ((event : Event) (old : Card) (message : OpenMessage) (block : Block) (cell : Cell)
-    → old.core.message ≡ Open message → OnBus event → block ≢ message.block
+    → old.core.message ≡ Some message → OnBus event → block ≢ message.block
     → cell.0 < block_cells
     → cell_at (step event old).card.ram block cell ≡ cell_at old.ram block cell)
     → ⊥
@@ -225,7 +224,7 @@ cells_elsewhere_would_differ claim =
 -- from block 1 by cell 35
 other_cells_would_differ :
     ((event : Event) (old : Card) (message : OpenMessage) (cell : Cell)
-    → old.core.message ≡ Open message → OnBus event → OtherCell cell
+    → old.core.message ≡ Some message → OnBus event → OtherCell cell
     → cell_at (step event old).card.ram message.block cell
     ≡ cell_at old.ram message.block cell)
     → ⊥
@@ -242,7 +241,7 @@ other_cells_would_differ claim =
       queued = false;
       opened = 0x28;
       taken = 0;
-      second = Absent;
+      second = None;
       stage = Data;
     } in
     let differs : ◌≡◌ {A = ℕ} 0x4003 0x0001 =

@@ -1,5 +1,6 @@
 -- A closing keeps the data cells of its message's block, at work on document 01's tray run. And the
 -- claim with less asked, each time false by a run that the checker computes. Assumes nothing.
+use Rattle.std.proofs.Common.{Some}
 use mathlib.Core.Path.{◌≡◌, refl, ap}
 use mathlib.Core.Bool.{false}
 use mathlib.Core.List.{[], ◌∷◌}
@@ -9,7 +10,6 @@ use Rattle.card.specs.declared.place.Block.{Block}
 use Rattle.card.specs.declared.place.Cell.{Cell}
 use Rattle.card.specs.Memory.{data_cells, the_block, the_cell, cell_at}
 use Rattle.message.specs.declared.state.OpenMessage.{OpenMessage}
-use Rattle.message.specs.declared.state.Message.TheVariants.{Open}
 use Rattle.message.specs.Asked.{asks}
 use Rattle.terminal.specs.State.{Card}
 use Rattle.terminal.specs.Event.{Event}
@@ -36,7 +36,7 @@ the_data_stays =
 abbrev Keeps : (Card → OpenMessage → Event → Cell → Type 0) → Type 0
 Keeps Asked =
     (old : Card) (message : OpenMessage) (event : Event) (cell : Cell)
-    → old.core.message ≡ Open message → Asked old message event cell
+    → old.core.message ≡ Some message → Asked old message event cell
     → cell_at (step event old).card.ram message.block cell
     ≡ cell_at old.ram message.block cell
 

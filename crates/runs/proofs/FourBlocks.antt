@@ -1,12 +1,12 @@
 -- Document 01's tray run on a card of four blocks, which the checker computes sooner than one of
 -- 256. Definitions only. Assumes nothing.
+use Rattle.std.proofs.Common.{None}
 use mathlib.Core.Bool.{Bool, true, false}
 use mathlib.Core.List.{List, [], ◌∷◌}
 use Prim.Native.Nat.{ℕ}
 use lib.ListN.{replicate}
 use Rattle.card.specs.Memory.{the_block}
 use Rattle.queue.specs.Queue.{empty_queue}
-use Rattle.message.specs.declared.state.Second.TheVariants.{Absent}
 use Rattle.message.specs.declared.state.Stage.TheVariants.{Data}
 use Rattle.message.specs.declared.state.OpenMessage.{OpenMessage}
 use Rattle.terminal.specs.State.{Card, card, core_at_setup}
@@ -38,7 +38,7 @@ received_by table block moved taken =
       queued = true;
       opened = 0x28;
       taken = taken;
-      second = Absent;
+      second = None;
       stage = Data;
     }
 

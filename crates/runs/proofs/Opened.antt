@@ -1,15 +1,13 @@
 -- What an opening fixes, in full: the open message, with a second command too, and how the event
 -- says that it opened, a word of the theorems. No row of `vectors` shows these. Assumes nothing.
+use Rattle.std.proofs.Common.{None, Option, Some, ℕ}
 use mathlib.Core.Path.{◌≡◌, refl}
 use mathlib.Core.Bool.{true, false}
 use mathlib.Core.List.{List, [], ◌∷◌, map}
 use Rattle.card.specs.Memory.{the_block}
 use Rattle.message.specs.declared.state.Stage.{Stage}
 use Rattle.message.specs.declared.state.Stage.TheVariants.{Data, SecondCommand}
-use Rattle.message.specs.declared.state.Second.{Second}
-use Rattle.message.specs.declared.state.Second.TheVariants.{Absent, Command}
 use Rattle.message.specs.declared.state.OpenMessage.{OpenMessage}
-use Rattle.message.specs.declared.state.Message.TheVariants.{Open}
 use Rattle.terminal.specs.Event.{Event, Opened, none, keeping, afresh}
 use Rattle.runs.proofs.Telling.{
   runs,
@@ -25,7 +23,7 @@ use Rattle.runs.proofs.Telling.{
 -- ---- the open message
 
 -- block and bit 14 are those of the table word 4002; the table block and the stamp are kept
-abbrev opened : Second → Stage → OpenMessage
+abbrev opened : Option ℕ → Stage → OpenMessage
 opened second stage =
     record {
       command = 0x2862;
@@ -41,13 +39,13 @@ opened second stage =
       stage = stage;
     }
 
-an_open_message_in_full : (card_after (receive ∷ [])).core.message ≡ Open (opened Absent Data)
+an_open_message_in_full : (card_after (receive ∷ [])).core.message ≡ Some (opened None Data)
 unfolding runs
 an_open_message_in_full = refl
 
 -- rule 6: station 9 is told to send two words from its subaddress 1
 the_second_command_is_kept : (card_after (receive ∷ joined_a 0x4C22 0x3C ∷ [])).core.message
-    ≡ Open (opened (Command 0x4C22) SecondCommand)
+    ≡ Some (opened (Some 0x4C22) SecondCommand)
 unfolding runs
 the_second_command_is_kept = refl
 

@@ -1,6 +1,7 @@
 -- A card that is whole and fit, and one at rest, at work on document 01's tray run: it stays so,
 -- and its blocks lie in its memory. And each claim with less asked, false by a card that the
 -- checker computes. Assumes nothing.
+use Rattle.std.proofs.Common.{None, Some}
 use mathlib.Core.Path.{◌≡◌, refl}
 use mathlib.Core.Bool.{Bool, true, false}
 use mathlib.Core.List.{[], ◌∷◌}
@@ -13,7 +14,6 @@ use Rattle.bus.specs.Word.{word_of}
 use Rattle.card.specs.Memory.{block_cells, card_words, the_block, the_cell, word_address}
 use Rattle.queue.specs.Queue.{empty_queue}
 use Rattle.message.specs.declared.state.OpenMessage.{OpenMessage}
-use Rattle.message.specs.declared.state.Message.TheVariants.{Idle, Open}
 use Rattle.terminal.specs.State.{Card, card, with_message, core_at_setup}
 use Rattle.terminal.specs.Opening.{opened_as}
 use Rattle.terminal.specs.Event.{Event, read_queue, move_table, none}
@@ -97,7 +97,7 @@ record AnyMemory (event : Event) (old : Card) : Type 0 where
   in_order : FitEvent event
   opens_nothing : (step event old).opened ≡ none
   fit : fit_card old ≡ true
-  idle : old.core.message ≡ Idle
+  idle : old.core.message ≡ None
 
 four_blocks_would_not_be_whole : Rests AnyMemory → ⊥
 unfolding runs small FitEvent
@@ -113,7 +113,7 @@ record AnyState (event : Event) (old : Card) : Type 0 where
   in_order : FitEvent event
   opens_nothing : (step event old).opened ≡ none
   whole_memory : length old.ram ≡ card_words
-  idle : old.core.message ≡ Idle
+  idle : old.core.message ≡ None
 
 station_31_would_stay_unfit : Rests AnyState → ⊥
 unfolding runs FitEvent
@@ -158,13 +158,13 @@ TableInside Asked =
 -- station 5, table block 1, a memory of so many zeros; a message is open
 unfoldable opened : ℕ → OpenMessage → Card
 opened words message =
-    card (with_message (Open message) (core_at_setup 5 (the_block 1) 0)) empty_queue
+    card (with_message (Some message) (core_at_setup 5 (the_block 1) 0)) empty_queue
     (replicate words 0)
 
 -- whatever the length of the memory
 record OverAny (old : Card) (message : OpenMessage) : Type 0 where
   fit : fit_card old ≡ true
-  is_open : old.core.message ≡ Open message
+  is_open : old.core.message ≡ Some message
 
 two_blocks_would_lack_block_2 : Inside OverAny → ⊥
 unfolding runs opened
@@ -185,7 +185,7 @@ one_block_would_lack_the_table claim =
 -- fit or not
 record InAny (old : Card) (message : OpenMessage) : Type 0 where
   whole_memory : length old.ram ≡ card_words
-  is_open : old.core.message ≡ Open message
+  is_open : old.core.message ≡ Some message
 
 block_256_would_lie_behind_memory : Inside InAny → ⊥
 unfolding runs opened

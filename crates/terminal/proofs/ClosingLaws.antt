@@ -1,4 +1,5 @@
 -- The laws of `specs/Closing.antt`, as the code puts a closing together. Assumes nothing.
+use Rattle.std.proofs.Common.{None, is_some}
 use mathlib.Core.Path.{◌≡◌}
 use mathlib.Core.Bool.{Bool, true, false, cond, not, ◌&&◌, ◌||◌}
 use mathlib.Core.List.{List}
@@ -13,8 +14,6 @@ use Rattle.card.specs.Time.{ticks_of}
 use Rattle.queue.specs.declared.Queue.{Queue}
 use Rattle.message.specs.declared.asked.Asked.{Asked}
 use Rattle.message.specs.declared.state.OpenMessage.{OpenMessage}
-use Rattle.message.specs.declared.state.Message.TheVariants.{Idle}
-use Rattle.message.specs.Message.{has_second}
 use Rattle.terminal.specs.declared.state.Shut.{Shut}
 use Rattle.terminal.specs.declared.state.Core.{Core}
 use Rattle.terminal.specs.declared.state.Reply.TheVariants.{Silent, Status, Words, Last}
@@ -39,7 +38,7 @@ use Rattle.terminal.specs.Closing.{
 
 pub state_is : (code words : ℕ) (message : OpenMessage) (broadcast second : Bool) (word : ℕ)
     → broadcast ≡ is_broadcast message.command
-    → second ≡ has_second message.second
+    → second ≡ is_some message.second
     → word
     ≡ state_word (record {
       line = message.line;
@@ -149,7 +148,7 @@ module _ (asked : Asked) (time : ℕ) (message : OpenMessage) (old core idle : C
     (queue joined : Queue) (ram left : List ℕ) (words state : ℕ)
     (is_left : left ≡ closed_ram asked state time message ram)
     (is_joined : joined ≡ closed_queue asked message queue)
-    (is_idle_lem : idle ≡ with_message Idle core) where
+    (is_idle_lem : idle ≡ with_message None core) where
   pub fault_is : (code marked : ℕ)
       → words ≡ unless_busy asked message message.taken
       → state ≡ state_of code words message

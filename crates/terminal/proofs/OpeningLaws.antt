@@ -1,4 +1,5 @@
 -- The laws of `specs/Opening.antt`, as the code puts an opening together. Assumes nothing.
+use Rattle.std.proofs.Common.{None, Some}
 use mathlib.Core.Path.{◌≡◌}
 use mathlib.Core.Bool.{Bool, true, false, cond, not, ◌&&◌, ◌||◌}
 use mathlib.Core.List.{List}
@@ -14,9 +15,7 @@ use Rattle.card.specs.TableWord.{is_busy, block_of, wants_queue}
 use Rattle.message.specs.declared.asked.Asked.{Asked}
 use Rattle.message.specs.declared.state.Stage.{Stage}
 use Rattle.message.specs.declared.state.Stage.TheVariants.{Data, Skipping}
-use Rattle.message.specs.declared.state.Second.TheVariants.{Absent}
 use Rattle.message.specs.declared.state.OpenMessage.{OpenMessage}
-use Rattle.message.specs.declared.state.Message.TheVariants.{Open}
 use Rattle.message.specs.Asked.{asked_of}
 use Rattle.terminal.specs.declared.state.Core.{Core}
 use Rattle.terminal.specs.State.{with_status, with_last, with_message}
@@ -52,7 +51,7 @@ module _ (asked : Asked) (table_word : ℕ) (word : Word) (core : Core) where
         queued = asked.block && wanted;
         opened = word.time;
         taken = 0;
-        second = Absent;
+        second = None;
         stage = stage;
       } ≡ opened_message asked table_word word core
   unfolding opened_message
@@ -95,7 +94,7 @@ module _ (asked : Asked) (table_word : ℕ) (word : Word) (core : Core) where
         last = last;
         shut = core.shut;
         inhibit = core.inhibit;
-        message = Open message;
+        message = Some message;
       } ≡ opened_core (opened_message asked table_word word core) asked table_word word core
   unfolding opened_core with_message with_last with_status
   core_is message status last is_message is_status is_last =

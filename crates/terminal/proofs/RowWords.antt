@@ -1,5 +1,6 @@
 -- Data words that the open message wants: one is stored (`word_is_stored`), and a row of them,
 -- stored at once, is as many words heard one after the other (`row_is_words`). Assumes nothing.
+use Rattle.std.proofs.Common.{Option, Some}
 use mathlib.Core.Path.{◌≡◌, refl, ap, ◌∙◌}
 use mathlib.Core.List.{List, [], ◌∷◌, map}
 use Prim.Native.Nat.{ℕ, suc, ◌+◌, ◌≤◌, ◌<◌}
@@ -13,8 +14,6 @@ use Rattle.card.specs.Memory.{with_cells}
 use Rattle.message.specs.declared.state.Stage.{Stage}
 use Rattle.message.specs.declared.state.Stage.TheVariants.{Data}
 use Rattle.message.specs.declared.state.OpenMessage.{OpenMessage}
-use Rattle.message.specs.declared.state.Message.{Message}
-use Rattle.message.specs.declared.state.Message.TheVariants.{Open}
 use Rattle.message.specs.Message.{further}
 use Rattle.message.specs.Asked.{asks}
 use Rattle.message.specs.Words.{own_command, in_data, on_word}
@@ -26,7 +25,7 @@ use Rattle.terminal.specs.Row.{with_taken, word_stored, row_stored}
 use Rattle.terminal.specs.WordStep.{word_done, word_step}
 use Rattle.terminal.specs.Machine.{step, run}
 
-module _ (message : OpenMessage) (old : Card) (is_open : old.core.message ≡ Open message) where
+module _ (message : OpenMessage) (old : Card) (is_open : old.core.message ≡ Some message) where
   -- a data word that is wanted is stored
   pub word_is_stored : (heard : Word) → message.taken < wants message
       → DataWord message.line heard
@@ -53,12 +52,12 @@ module _ (message : OpenMessage) (old : Card) (is_open : old.core.message ≡ Op
   none_taken in_data_lem =
       let same : message ≡ further Data message.second message.taken message =
       ap (λ (stage : Stage). further stage message.second message.taken message) in_data_lem in
-      ap (λ (held : Message). card (with_message held old.core) old.queue old.ram)
-      (is_open ∙ ap (λ (again : OpenMessage). Open again) same)
+      ap (λ (held : Option OpenMessage). card (with_message held old.core) old.queue old.ram)
+      (is_open ∙ ap (λ (again : OpenMessage). Some again) same)
 
 -- a row of data words, as many as are wanted at the most
 pub row_is_words : (row : List Word) (message : OpenMessage) (old : Card)
-    → old.core.message ≡ Open message → message.stage ≡ Data
+    → old.core.message ≡ Some message → message.stage ≡ Data
     → message.taken + length row ≤ wants message → DataWords message.line row
     → run (map word row) old ≡ row_stored row message old
 unfolding run step with_cells with_message further
@@ -77,7 +76,7 @@ row_is_words (heard ∷ more) message old is_open in_data_lem within (a_word fir
     next : OpenMessage
     next = further Data message.second (message.taken + 1) message
 
-    is_next : (with_taken (message.taken + 1) message old.core).message ≡ Open next
+    is_next : (with_taken (message.taken + 1) message old.core).message ≡ Some next
     is_next = refl
 
     longer : message.taken + 1 + length more ≡ message.taken + suc (length more)

@@ -1,4 +1,5 @@
 -- A word brings no reply: `words_are_silent`. Assumes nothing.
+use Rattle.std.proofs.Common.{None, Option, Some}
 use mathlib.Core.Path.{◌≡◌, refl}
 use mathlib.Core.Bool.{Bool, true, false, cond}
 use Rattle.bus.specs.declared.word.Word.{Word}
@@ -15,8 +16,6 @@ use Rattle.message.specs.declared.judge.WordAct.TheVariants.{
 }
 use Rattle.message.specs.declared.asked.Asked.{Asked}
 use Rattle.message.specs.declared.state.OpenMessage.{OpenMessage}
-use Rattle.message.specs.declared.state.Message.{Message}
-use Rattle.message.specs.declared.state.Message.TheVariants.{Idle, Open}
 use Rattle.message.specs.Words.{own_command}
 use Rattle.terminal.specs.declared.state.Reply.TheVariants.{Silent}
 use Rattle.terminal.specs.State.{Card}
@@ -36,14 +35,14 @@ word_done_silent (Fault code) asked message heard old = refl
 word_done_silent Supersede asked message heard old = refl
 word_done_silent Drop asked message heard old = refl
 
-word_met_silent : (message : Message) (heard : Word) (old : Card)
+word_met_silent : (message : Option OpenMessage) (heard : Word) (old : Card)
     → (word_met message heard old).answer ≡ replied Silent
-word_met_silent Idle heard old = go (own_command old.core.station old.core.flags heard)
+word_met_silent None heard old = go (own_command old.core.station old.core.flags heard)
   where
     go : (own : Bool) → (cond own (opens heard old) (quietly old)).answer ≡ replied Silent
     go true = refl
     go false = refl
-word_met_silent (Open message) heard old = word_done_silent _ _ message heard old
+word_met_silent (Some message) heard old = word_done_silent _ _ message heard old
 
 pub words_are_silent : (heard : Word) (old : Card) → (word_step heard old).answer ≡ replied Silent
 unfolding word_step

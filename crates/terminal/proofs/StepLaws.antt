@@ -1,6 +1,7 @@
 -- The laws of `specs/WordStep.antt`, `specs/SilenceStep.antt` and `specs/AsCoded/Deed.antt`, as the
 -- code does what was decided: a law for each deed, and deeds come to what the acts ask. Assumes
 -- nothing.
+use Rattle.std.proofs.Common.{None, Option, Some}
 use mathlib.Core.Path.{◌≡◌, refl, sym, ap, ◌∙◌}
 use mathlib.Core.Bool.{Bool, true, false, cond, not}
 use mathlib.Core.List.{List}
@@ -17,10 +18,7 @@ use Rattle.message.specs.declared.judge.SilenceAct.{SilenceAct}
 use Rattle.message.specs.declared.judge.SilenceAct.TheVariants as silence_acts
 use Rattle.message.specs.declared.state.Stage.{Stage}
 use Rattle.message.specs.declared.state.Stage.TheVariants.{Data, AwaitingStatus}
-use Rattle.message.specs.declared.state.Second.{Second}
 use Rattle.message.specs.declared.state.OpenMessage.{OpenMessage}
-use Rattle.message.specs.declared.state.Message.{Message}
-use Rattle.message.specs.declared.state.Message.TheVariants.{Idle, Open}
 use Rattle.message.specs.Message.{further}
 use Rattle.message.specs.Asked.{asks}
 use Rattle.message.specs.Words.{own_command, on_word}
@@ -58,11 +56,11 @@ word_deed_of act known message deed is same = rw is same
 -- ---- the open message goes on
 
 abbrev going_on : OpenMessage → Core → Ring → Held
-going_on message core ring = record { core = with_message (Open message) core; ring = ring }
+going_on message core ring = record { core = with_message (Some message) core; ring = ring }
 
 pub went_on : (core new : Core) (ring : Ring) (message next : OpenMessage) (stage : Stage)
-    (second : Second) (taken : ℕ)
-    → next ≡ further stage second taken message → new ≡ with_message (Open next) core
+    (second : Option ℕ) (taken : ℕ)
+    → next ≡ further stage second taken message → new ≡ with_message (Some next) core
     → record { core = new; ring = ring } ≡ going_on (further stage second taken message) core ring
 went_on core new ring message next stage second taken is_next is_new = rw (is_new, is_next)
 
@@ -73,19 +71,19 @@ module _ (act : WordAct) (deed : WordDeed) (message : OpenMessage) (word : Word)
   abbrev before : Card
   before = card core (queue places ring) ram
 
-  module _ (is : core.message ≡ Open message) (is_deed : deed ≡ word_deed act message) where
+  module _ (is : core.message ≡ Some message) (is_deed : deed ≡ word_deed act message) where
     -- what is done goes by the message that is open
     done_by_lem : (new : Card) → new ≡ word_deed_done deed message word before
         → new ≡ done_by act word before
     unfolding done_by
     done_by_lem new is_new =
-        rw (← is_deed) is_new ∙ sym (ap (λ (met : Message). done_to_message met act word before) is)
+        rw (← is_deed) is_new ∙ sym (ap (λ (met : Option OpenMessage). done_to_message met act word before) is)
 
     pub word_rested : deed ≡ word_deeds.Rest → before ≡ done_by act word before
     unfolding word_deed_done
     word_rested rests = done_by_lem before (rw rests)
 
-    pub word_went_on : (stage : Stage) (second : Second) (taken : ℕ) (held : Held)
+    pub word_went_on : (stage : Stage) (second : Option ℕ) (taken : ℕ) (held : Held)
         → deed ≡ word_deeds.GoOn stage second taken
         → held ≡ going_on (further stage second taken message) core ring
         → card held.core (queue places held.ring) ram ≡ done_by act word before
@@ -111,11 +109,11 @@ module _ (act : WordAct) (deed : WordDeed) (message : OpenMessage) (word : Word)
         done_by_lem new (rw (faults, ← is_asked) is_new)
 
 pub idle_left : (act : WordAct) (word : Word) (core : Core) (places : List ℕ) (ring : Ring)
-    (ram : List ℕ) → core.message ≡ Idle
+    (ram : List ℕ) → core.message ≡ None
     → card core (queue places ring) ram ≡ done_by act word (card core (queue places ring) ram)
 unfolding done_by
 idle_left act word core places ring ram is =
-    sym (ap (λ (met : Message). done_to_message met act word (card core (queue places ring) ram))
+    sym (ap (λ (met : Option OpenMessage). done_to_message met act word (card core (queue places ring) ram))
     is)
 
 pub ruleset word_acting = (idle_left, word_rested, word_went_on, word_stored_lem, word_faulted)
@@ -123,27 +121,27 @@ pub ruleset word_acting = (idle_left, word_rested, word_went_on, word_stored_lem
 -- ---- the act of a word
 
 module _ (word : Word) (core : Core) where
-  act_by : (message : Message) (act : WordAct) → core.message ≡ message
+  act_by : (message : Option OpenMessage) (act : WordAct) → core.message ≡ message
       → act ≡ act_on_message message word core → act ≡ act_on word core
   unfolding act_on
   act_by message act is is_act =
-      is_act ∙ sym (ap (λ (met : Message). act_on_message met word core) is)
+      is_act ∙ sym (ap (λ (met : Option OpenMessage). act_on_message met word core) is)
 
-  module _ (own : Bool) (idle : core.message ≡ Idle)
+  module _ (own : Bool) (idle : core.message ≡ None)
       (is_own_lem : own ≡ own_command core.station core.flags word) where
     pub own_opens : own ≡ true → word_acts.Drop ≡ act_on word core
-    own_opens holds = act_by Idle word_acts.Drop idle (rw (← is_own_lem, holds))
+    own_opens holds = act_by None word_acts.Drop idle (rw (← is_own_lem, holds))
 
     pub other_ignored : own ≡ false → word_acts.Ignore ≡ act_on word core
-    other_ignored fails = act_by Idle word_acts.Ignore idle (rw (← is_own_lem, fails))
+    other_ignored fails = act_by None word_acts.Ignore idle (rw (← is_own_lem, fails))
 
   pub open_judged : (message : OpenMessage) (asked : Asked) (act : WordAct)
-      → core.message ≡ Open message
+      → core.message ≡ Some message
       → asked ≡ asks message
       → act ≡ on_word core.station core.flags asked message word
       → act ≡ act_on word core
   open_judged message asked act is is_asked is_act =
-      act_by (Open message) act is (rw (← is_asked) is_act)
+      act_by (Some message) act is (rw (← is_asked) is_act)
 
 pub ruleset word_judging = (own_opens, other_ignored, open_judged)
 
@@ -162,19 +160,19 @@ deeds_of_words (word_acts.Fault code) message word old = refl
 deeds_of_words word_acts.Supersede message word old = refl
 deeds_of_words word_acts.Drop message word old = refl
 
-word_step_met : (message : Message) (word : Word) (old : Card)
+word_step_met : (message : Option OpenMessage) (word : Word) (old : Card)
     → opened_if (opens_by (act_on_message message word old.core)) word
     (done_to_message message (act_on_message message word old.core) word old)
     ≡ (word_met message word old).card
-word_step_met Idle word old = go (own_command old.core.station old.core.flags word)
+word_step_met None word old = go (own_command old.core.station old.core.flags word)
   where
     go : (own : Bool)
         → opened_if (opens_by (cond own word_acts.Drop word_acts.Ignore)) word old
         ≡ (cond own (opens word old) (quietly old)).card
     go true = refl
     go false = refl
-word_step_met (Open message) word old =
-    deeds_of_words (act_on_message (Open message) word old.core) message word old
+word_step_met (Some message) word old =
+    deeds_of_words (act_on_message (Some message) word old.core) message word old
 
 word_step_is : (word : Word) (old : Card)
     → opened_if (opens_by (act_on word old.core)) word (done_by (act_on word old.core) word old)
@@ -255,19 +253,19 @@ module _ (line : Bool) (time : ℕ) (core : Core) (places : List ℕ) (ring : Ri
   abbrev silent_before : Card
   silent_before = card core (queue places ring) ram
 
-  silence_step_by : (message : Message) → core.message ≡ message
+  silence_step_by : (message : Option OpenMessage) → core.message ≡ message
       → seen (silence_met message line time silent_before)
       ≡ seen (silence_step line time silent_before)
   unfolding silence_step
   silence_step_by message is =
-      sym (ap (λ (met : Message). seen (silence_met met line time silent_before)) is)
+      sym (ap (λ (met : Option OpenMessage). seen (silence_met met line time silent_before)) is)
 
-  pub idle_silent : core.message ≡ Idle
+  pub idle_silent : core.message ≡ None
       → shown silent_before (replied Silent) ≡ seen (silence_step line time silent_before)
-  idle_silent idle = silence_step_by Idle idle
+  idle_silent idle = silence_step_by None idle
 
   pub open_silent : (message : OpenMessage) (asked : Asked) (act : SilenceAct)
-      (reply : Reply) (new : Card) → core.message ≡ Open message
+      (reply : Reply) (new : Card) → core.message ≡ Some message
       → asked ≡ asks message
       → act ≡ on_silence asked message line
       → reply ≡ reply_to act asked message core
@@ -277,6 +275,6 @@ module _ (line : Bool) (time : ℕ) (core : Core) (places : List ℕ) (ring : Ri
       rw (is_new, is_reply, is_act, is_asked)
       (silences_reply (on_silence (asks message) message line)
       (asks message) message time silent_before)
-      ∙ silence_step_by (Open message) is
+      ∙ silence_step_by (Some message) is
 
 pub ruleset silence_meeting = (idle_silent, open_silent)

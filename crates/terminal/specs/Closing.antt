@@ -1,5 +1,5 @@
 -- Closing, faults, and the sound end. Definitions only. Assumes nothing.
-use Rattle.std.specs.Prelude.{Bool, true, false, cond, not, ◌&&◌, ◌||◌, List, ℕ, eqb}
+use Rattle.std.specs.Prelude.{Bool, true, false, cond, not, ◌&&◌, ◌||◌, List, ℕ, eqb, None, is_some}
 use Rattle.bus.specs.Command.{is_broadcast}
 use Rattle.bus.specs.Status.{with_error}
 use Rattle.card.specs.declared.place.Block.{Block}
@@ -11,8 +11,6 @@ use Rattle.queue.specs.declared.Queue.{Queue}
 use Rattle.queue.specs.Queue.{with_joined}
 use Rattle.message.specs.declared.asked.Asked.{Asked}
 use Rattle.message.specs.declared.state.OpenMessage.{OpenMessage}
-use Rattle.message.specs.declared.state.Message.TheVariants.{Idle}
-use Rattle.message.specs.Message.{has_second}
 use Rattle.message.specs.Asked.{keeps_back}
 use Rattle.terminal.specs.declared.state.Shut.{Shut}
 use Rattle.terminal.specs.declared.state.Core.{Core}
@@ -32,7 +30,7 @@ state_of code words message =
       line = message.line;
       fault = not (eqb code 0);
       broadcast = is_broadcast message.command;
-      second = has_second message.second;
+      second = is_some message.second;
       busy = message.busy;
       code = code;
       words = words;
@@ -59,7 +57,7 @@ closed_queue asked message queue =
 
 unfoldable pub closing : Asked → ℕ → ℕ → OpenMessage → Card → Card
 closing asked state time message old =
-    card (with_message Idle old.core)
+    card (with_message None old.core)
     (closed_queue asked message old.queue)
     (closed_ram asked state time message old.ram)
 

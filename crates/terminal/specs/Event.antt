@@ -1,10 +1,9 @@
 -- What happens to the terminal, and what comes of it. Definitions only. Assumes nothing.
-use Rattle.std.specs.Prelude.{Bool, cond, List, ℕ}
+use Rattle.std.specs.Prelude.{Bool, cond, List, ℕ, Some}
 use Rattle.bus.specs.declared.word.Word.{Word}
 use Rattle.card.specs.declared.place.Block.{Block}
 use Rattle.message.specs.declared.asked.Asked.{Asked}
 use Rattle.message.specs.declared.state.OpenMessage.{OpenMessage}
-use Rattle.message.specs.declared.state.Message.TheVariants.{Open}
 use Rattle.message.specs.Asked.{asked_of}
 use Rattle.terminal.specs.declared.state.Reply.{Reply}
 use Rattle.terminal.specs.declared.state.Answer.{Answer}
@@ -72,4 +71,4 @@ opens word' old =
 -- the open message goes on
 abbrev pub goes_on : OpenMessage → Card → Outcome
 goes_on message old =
-    quietly (with_core (with_message (Open message) old.core) old)
+    quietly (with_core (with_message (Some message) old.core) old)

@@ -1,5 +1,5 @@
 -- Opening: own commands, and what an opening does. Definitions only. Assumes nothing.
-use Rattle.std.specs.Prelude.{Bool, false, cond, ◌&&◌, ◌||◌, List, ℕ}
+use Rattle.std.specs.Prelude.{Bool, false, cond, ◌&&◌, ◌||◌, List, ℕ, None, Some}
 use Rattle.bits.specs.Bit.{has_bit}
 use Rattle.bus.specs.declared.word.Word.{Word}
 use Rattle.bus.specs.Status.{status_word, caught_status}
@@ -7,9 +7,7 @@ use Rattle.card.specs.Memory.{the_block, cell_at}
 use Rattle.card.specs.TableWord.{is_busy, wants_queue, block_of}
 use Rattle.message.specs.declared.asked.Asked.{Asked}
 use Rattle.message.specs.declared.state.Stage.TheVariants.{Data, Skipping}
-use Rattle.message.specs.declared.state.Second.TheVariants.{Absent}
 use Rattle.message.specs.declared.state.OpenMessage.{OpenMessage}
-use Rattle.message.specs.declared.state.Message.TheVariants.{Open}
 use Rattle.message.specs.Asked.{asked_of}
 use Rattle.terminal.specs.declared.state.Core.{Core}
 use Rattle.terminal.specs.State.{Card, with_status, with_last, with_message, with_core}
@@ -32,7 +30,7 @@ opened_message asked table_word word core =
       queued = asked.block && wants_queue table_word;
       opened = word.time;
       taken = 0;
-      second = Absent;
+      second = None;
       stage = cond asked.illegal Skipping Data;
     }
 
@@ -47,7 +45,7 @@ opened_status asked table_word word core =
 
 unfoldable pub opened_core : OpenMessage → Asked → ℕ → Word → Core → Core
 opened_core message asked table_word word core =
-    with_message (Open message)
+    with_message (Some message)
     (with_last (cond asked.last core.last word.value)
     (with_status (opened_status asked table_word word core) core))
 

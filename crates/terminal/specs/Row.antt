@@ -1,12 +1,11 @@
 -- Data words that the open message stores, one or a row of them: the cells behind the words taken
 -- hold them, and so many more are taken. Definitions only. Assumes nothing.
-use Rattle.std.specs.Prelude.{List, ℕ, ◌+◌, length}
+use Rattle.std.specs.Prelude.{List, ℕ, ◌+◌, length, Some}
 use Rattle.bus.specs.declared.word.Word.{Word}
 use Rattle.bus.specs.DataWords.{values_of}
 use Rattle.card.specs.Memory.{the_cell, with_cell, with_cells}
 use Rattle.message.specs.declared.state.Stage.TheVariants.{Data}
 use Rattle.message.specs.declared.state.OpenMessage.{OpenMessage}
-use Rattle.message.specs.declared.state.Message.TheVariants.{Open}
 use Rattle.message.specs.Message.{further}
 use Rattle.terminal.specs.declared.state.Core.{Core}
 use Rattle.terminal.specs.State.{Card, card, with_message}
@@ -14,7 +13,7 @@ use Rattle.terminal.specs.State.{Card, card, with_message}
 -- the open message goes on in its data, with so many words taken
 abbrev pub with_taken : ℕ → OpenMessage → Core → Core
 with_taken taken message core =
-    with_message (Open (further Data message.second taken message)) core
+    with_message (Some (further Data message.second taken message)) core
 
 -- a data word is stored, and so many are taken then
 abbrev pub word_stored : ℕ → ℕ → OpenMessage → Card → Card

@@ -1,5 +1,5 @@
 -- A silence: what it decides is done. Definitions only. Assumes nothing.
-use Rattle.std.specs.Prelude.{Bool, ℕ}
+use Rattle.std.specs.Prelude.{Bool, ℕ, None, Option, Some}
 use Rattle.message.specs.declared.asked.Asked.{Asked}
 use Rattle.message.specs.declared.judge.SilenceAct.{SilenceAct}
 use Rattle.message.specs.declared.judge.SilenceAct.TheVariants.{
@@ -10,8 +10,6 @@ use Rattle.message.specs.declared.judge.SilenceAct.TheVariants.{
 }
 use Rattle.message.specs.declared.state.Stage.TheVariants.{AwaitingStatus}
 use Rattle.message.specs.declared.state.OpenMessage.{OpenMessage}
-use Rattle.message.specs.declared.state.Message.{Message}
-use Rattle.message.specs.declared.state.Message.TheVariants.{Idle, Open}
 use Rattle.message.specs.Message.{further}
 use Rattle.message.specs.Asked.{asks}
 use Rattle.message.specs.Silence.{on_silence}
@@ -32,9 +30,9 @@ silence_done End asked message time old =
     }
 
 -- with nothing open, silence does nothing
-abbrev pub silence_met : Message → Bool → ℕ → Card → Outcome
-silence_met Idle line time old = quietly old
-silence_met (Open message) line time old =
+abbrev pub silence_met : Option OpenMessage → Bool → ℕ → Card → Outcome
+silence_met None line time old = quietly old
+silence_met (Some message) line time old =
     silence_done (on_silence (asks message) message line)
     (asks message) message time old
 

@@ -1,14 +1,13 @@
 -- The terminal's state: a setter for each field, and setup. Definitions only. Assumes nothing.
-use Rattle.std.specs.Prelude.{Bool, false, List, ℕ, ◌*◌, ◌%◌}
+use Rattle.std.specs.Prelude.{Bool, false, List, ℕ, ◌*◌, ◌%◌, None, Option}
 use Rattle.card.specs.declared.place.Block.{Block}
 use Rattle.queue.specs.declared.Queue.{Queue}
 use Rattle.queue.specs.declared.Ring.{Ring}
 use Rattle.queue.specs.Queue.{queue}
-use Rattle.message.specs.declared.state.Message.{Message}
-use Rattle.message.specs.declared.state.Message.TheVariants.{Idle}
 use Rattle.terminal.specs.declared.state.Shut.{Shut}
 use Rattle.terminal.specs.declared.state.Core.{Core}
 use Rattle.terminal.specs.declared.state.Held.{Held}
+use Rattle.message.specs.declared.state.OpenMessage.{OpenMessage}
 
 -- everything that an event may change: the terminal, by core and queue, and card memory
 pub record Card : Type 0 where
@@ -104,7 +103,7 @@ with_switches shut inhibit core =
       message = core.message;
     }
 
-unfoldable pub with_message : Message → Core → Core
+unfoldable pub with_message : Option OpenMessage → Core → Core
 with_message message core =
     record {
       station = core.station;
@@ -130,5 +129,5 @@ core_at_setup station table flags =
       last = 0;
       shut = record { a = false; b = false };
       inhibit = false;
-      message = Idle;
+      message = None;
     }

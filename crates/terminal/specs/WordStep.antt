@@ -1,5 +1,5 @@
 -- A word: what rules 1 to 8 decide is done. Definitions only. Assumes nothing.
-use Rattle.std.specs.Prelude.{cond}
+use Rattle.std.specs.Prelude.{cond, None, Option, Some}
 use Rattle.bus.specs.declared.word.Word.{Word}
 use Rattle.message.specs.declared.asked.Asked.{Asked}
 use Rattle.message.specs.declared.judge.WordAct.{WordAct}
@@ -14,10 +14,7 @@ use Rattle.message.specs.declared.judge.WordAct.TheVariants.{
   Drop,
 }
 use Rattle.message.specs.declared.state.Stage.TheVariants.{Data, SecondCommand}
-use Rattle.message.specs.declared.state.Second.TheVariants.{Command}
 use Rattle.message.specs.declared.state.OpenMessage.{OpenMessage}
-use Rattle.message.specs.declared.state.Message.{Message}
-use Rattle.message.specs.declared.state.Message.TheVariants.{Idle, Open}
 use Rattle.message.specs.Message.{further}
 use Rattle.message.specs.Asked.{asks}
 use Rattle.message.specs.Words.{own_command}
@@ -34,7 +31,7 @@ word_done (Store taken) asked message word old =
 word_done (Check taken) asked message word old =
     goes_on (further Data message.second taken message) old
 word_done (TakeSecond value) asked message word old =
-    goes_on (further SecondCommand (Command value) message.taken message) old
+    goes_on (further SecondCommand (Some value) message.taken message) old
 word_done TakeStatus asked message word old =
     goes_on (further Data message.second message.taken message) old
 word_done (Fault code) asked message word old =
@@ -44,10 +41,10 @@ word_done Supersede asked message word old =
 word_done Drop asked message word old = opens word old
 
 -- with nothing open, any own command opens, joined or not
-abbrev pub word_met : Message → Word → Card → Outcome
-word_met Idle word old =
+abbrev pub word_met : Option OpenMessage → Word → Card → Outcome
+word_met None word old =
     cond (own_command old.core.station old.core.flags word) (opens word old) (quietly old)
-word_met (Open message) word old =
+word_met (Some message) word old =
     word_done
     (on_word old.core.station old.core.flags (asks message) message word)
     (asks message) message word old

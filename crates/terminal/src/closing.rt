@@ -22,8 +22,7 @@ use bus::{command, status};
 use card::state::State;
 use card::{memory, time};
 use message::asked::Asked;
-use message::state;
-use message::state::{Message, OpenMessage};
+use message::state::OpenMessage;
 use queue::Ring;
 
 // Words stored or sent: none where they are kept back.
@@ -39,8 +38,7 @@ fn state_of(code: u16, words: u16, message: OpenMessage) -> u16
     ensures { result ≡ state_of code words message }
 {
     let broadcast = command::is_broadcast(message.command);
-    let held = message.second;
-    let second = state::has_second(held);
+    let second = message.second.is_some();
     let state = State {
         line: message.line,
         fault: !(code == 0),
@@ -162,7 +160,7 @@ impl Core {
         let joined = close_queue(ring, places, asked, message);
         let core = self.with_status(status::with_error(self.status));
         Held {
-            core: core.with_message(Message::Idle),
+            core: core.with_message(None),
             ring: joined,
         }
     }
@@ -187,7 +185,7 @@ impl Core {
         let joined = close_queue(ring, places, asked, message);
         let core = self.switch(asked.switch, message.line);
         Held {
-            core: core.with_message(Message::Idle),
+            core: core.with_message(None),
             ring: joined,
         }
     }

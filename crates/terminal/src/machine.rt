@@ -1,7 +1,6 @@
 // Words and silences over what a run holds: decided first, then done. These are total: fitness is
 // judged by the actions, and a run that starts fit stays so.
-ghost use Rattle.std.specs.Prelude.{◌≡◌};
-ghost use Rattle.message.specs.declared.state.Message.TheVariants.{Open};
+ghost use Rattle.std.specs.Prelude.{◌≡◌, Some};
 ghost use Rattle.message.specs.Message.{further};
 ghost use Rattle.terminal.specs.State.{card, with_message, holding, card_of};
 ghost use Rattle.terminal.specs.Event.{shown, seen, replied};
@@ -16,7 +15,7 @@ use card::place::Cell;
 use message::asked::Asked;
 use message::judge;
 use message::judge::{SilenceAct, WordAct};
-use message::state::{Message, OpenMessage, Second, Stage};
+use message::state::{OpenMessage, Stage};
 use queue::Ring;
 
 // What a word does to the open message.
@@ -24,7 +23,7 @@ use queue::Ring;
 pub enum WordDeed {
     Rest,
     // the message goes on: its stage, second command and words taken then
-    GoOn(Stage, Second, u16),
+    GoOn(Stage, Option<u16>, u16),
     // the word is stored; so many are taken then
     Store(u16),
     // the message closes with a fault code
@@ -41,7 +40,7 @@ fn word_deed(act: WordAct, message: OpenMessage) -> WordDeed
         WordAct::Store(taken) => WordDeed::Store(taken),
         WordAct::Check(taken) => WordDeed::GoOn(Stage::Data, second, taken),
         WordAct::TakeSecond(value) => {
-            WordDeed::GoOn(Stage::SecondCommand, Second::Command(value), message.taken)
+            WordDeed::GoOn(Stage::SecondCommand, Some(value), message.taken)
         }
         WordAct::TakeStatus => WordDeed::GoOn(Stage::Data, second, message.taken),
         WordAct::Fault(code) => WordDeed::Fault(code),
@@ -73,15 +72,15 @@ impl Core {
         ring: Ring,
         message: OpenMessage,
         stage: Stage,
-        second: Second,
+        second: Option<u16>,
         taken: u16,
     ) -> Held
         ensures { result
-            ≡ holding (with_message (Open (further stage second taken message)) self) ring }
+            ≡ holding (with_message (Some (further stage second taken message)) self) ring }
     {
         let next = message.further(stage, second, taken);
         Held {
-            core: self.with_message(Message::Open(next)),
+            core: self.with_message(Some(next)),
             ring: ring,
         }
     }
@@ -91,7 +90,7 @@ impl Core {
         ensures { result ≡ act_on word self }
     {
         let held = self.message;
-        let Message::Open(message) = held else {
+        let Some(message) = held else {
             if judge::is_own(self.station, self.flags, word) {
                 return WordAct::Drop;
             }
@@ -115,7 +114,7 @@ impl Core {
             (card_of (holding self ring) places.old ram.old) }
     {
         let held = self.message;
-        let Message::Open(message) = held else {
+        let Some(message) = held else {
             return Held {
                 core: self,
                 ring: ring,
@@ -220,7 +219,7 @@ impl Core {
             (card_of (holding self ring) places.old ram.old)) }
     {
         let held = self.message;
-        let Message::Open(message) = held else {
+        let Some(message) = held else {
             return Heard {
                 held: Held {
                     core: self,

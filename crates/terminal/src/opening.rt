@@ -18,7 +18,7 @@ use card::place::Block;
 use card::{memory, table};
 use message::asked;
 use message::asked::Asked;
-use message::state::{Message, OpenMessage, Second, Stage};
+use message::state::{OpenMessage, Stage};
 
 // Busy: flag 1 or, with a block, the table word's bit 15.
 fn busy_at(asked: Asked, flags: u16, table_word: u16) -> bool
@@ -57,7 +57,7 @@ fn opened_message(asked: Asked, table_word: u16, word: Word, core: Core) -> Open
     let busy = busy_at(asked, core.flags, table_word);
     let wanted = table::wants_queue(table_word);
     let stage = stage_at(asked.illegal);
-    let second = Second::Absent;
+    let second = None;
     OpenMessage {
         command: word.value,
         line: word.line,
@@ -110,7 +110,7 @@ fn opened_core(asked: Asked, table_word: u16, word: Word, core: Core) -> Core
     let last = opened_last(asked, core.last, word.value);
     let table = core.table;
     let shut = core.shut;
-    let held = Message::Open(message);
+    let held = Some(message);
     Core {
         station: core.station,
         table: table,

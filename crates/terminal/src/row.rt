@@ -3,7 +3,7 @@ ghost use Rattle.std.specs.Prelude.{◌≡◌};
 ghost use Rattle.terminal.specs.Row.{with_taken};
 
 use crate::state::Core;
-use message::state::{Message, OpenMessage, Stage};
+use message::state::{OpenMessage, Stage};
 
 impl Core {
     // The open message goes on behind a row of its words, with so many taken.
@@ -12,6 +12,6 @@ impl Core {
     {
         let second = message.second;
         let next = message.further(Stage::Data, second, taken);
-        self.with_message(Message::Open(next))
+        self.with_message(Some(next))
     }
 }

@@ -11,7 +11,7 @@ ghost use Rattle.terminal.specs.State.{
 
 use card::place::Block;
 use message::state;
-use message::state::Message;
+use message::state::OpenMessage;
 use queue::Ring;
 
 // The lines that are shut.
@@ -33,7 +33,8 @@ pub struct Core {
     pub last: u16,
     pub shut: Shut,
     pub inhibit: bool,
-    pub message: Message,
+    // the open message
+    pub message: Option<OpenMessage>,
 }
 
 // What a run carries by value from field to field. The queue's places and the RAM are lent.
@@ -82,7 +83,7 @@ impl Core {
         self
     }
 
-    pub(crate) fn with_message(self, message: Message) -> Core
+    pub(crate) fn with_message(self, message: Option<OpenMessage>) -> Core
         ensures { result ≡ with_message message self }
     {
         let table = self.table;
@@ -129,7 +130,7 @@ impl Core {
             last: 0,
             shut: Shut { a: false, b: false },
             inhibit: false,
-            message: Message::Idle,
+            message: None,
         }
     }
 }

@@ -4,6 +4,7 @@
 --     superseding-takes     .. and where a command supersedes, its message takes the block named
 --     next-opening-takes    .. and so does the next opening by that cell, whatever comes between
 -- Assumes nothing.
+use Rattle.std.proofs.Common.{None, Option, Some}
 use mathlib.Core.Path.{◌≡◌, refl, ap, subst, ◌∙◌}
 use mathlib.Core.Logic.{◌≢◌}
 use mathlib.Core.Bool.{Bool, true, false, cond}
@@ -30,8 +31,6 @@ use Rattle.message.specs.declared.judge.WordAct.TheVariants.{
   Drop,
 }
 use Rattle.message.specs.declared.state.OpenMessage.{OpenMessage}
-use Rattle.message.specs.declared.state.Message.{Message}
-use Rattle.message.specs.declared.state.Message.TheVariants.{Idle, Open}
 use Rattle.message.specs.Asked.{asked_of, asks}
 use Rattle.message.specs.Words.{own_command}
 use Rattle.message.proofs.AskedBounds.{cell_in_table}
@@ -157,11 +156,11 @@ module _ (heard : Word) (has : (asked_of heard.value).block ≡ true) where
   idle_takes true old opened = opening_takes old
   idle_takes false old opened = absurd (opened refl)
 
-  word_met_takes : (message : Message) (old : Card) → (word_met message heard old).opened ≢ none
+  word_met_takes : (message : Option OpenMessage) (old : Card) → (word_met message heard old).opened ≢ none
       → Takes (word_met message heard old).card old.core.table
-  word_met_takes Idle old opened =
+  word_met_takes None old opened =
       idle_takes (own_command old.core.station old.core.flags heard) old opened
-  word_met_takes (Open message) old opened =
+  word_met_takes (Some message) old opened =
       word_done_takes _ (asks message) message old opened
 
 -- by the table cell of a message, as memory has it after the step

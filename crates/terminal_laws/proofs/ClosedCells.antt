@@ -1,6 +1,7 @@
 -- What a closing makes of memory, for memory of any length: whatever closes the message, memory is
 -- as `closed_ram` has it, `closed_ram_lem`, as long as it was, and the data cells of the message's
 -- block are kept, `closing_keeps_data`, unless the table is that block. Assumes nothing.
+use Rattle.std.proofs.Common.{Some}
 use mathlib.Core.Path.{◌≡◌, ap, ◌∙◌}
 use mathlib.Core.Bool.{true, false}
 use mathlib.Core.List.{List}
@@ -12,7 +13,6 @@ use Rattle.card.specs.Memory.{block_cells, data_cells, word_address, cell_at}
 use Rattle.card.proofs.MemoryLaws.{addresses_apart}
 use Rattle.message.specs.declared.asked.Asked.{Asked}
 use Rattle.message.specs.declared.state.OpenMessage.{OpenMessage}
-use Rattle.message.specs.declared.state.Message.TheVariants.{Open}
 use Rattle.message.specs.Asked.{asks}
 use Rattle.message.proofs.AskedBounds.{cell_in_table}
 use Rattle.terminal.specs.State.{Card}
@@ -39,7 +39,7 @@ pub record ClosedRam (old : Card) (message : OpenMessage) (new : List ℕ) : Typ
   pub time : ℕ
   pub is : new ≡ closed_ram (asks message) state time message old.ram
 
-module _ (old : Card) (message : OpenMessage) (is_open : old.core.message ≡ Open message) where
+module _ (old : Card) (message : OpenMessage) (is_open : old.core.message ≡ Some message) where
   closed_by : {new : List ℕ} (state time : ℕ)
       → new ≡ closed_ram (asks message) state time message old.ram
       → ClosedRam old message new
@@ -99,7 +99,7 @@ module _ (asked : Asked) (state time : ℕ) (message : OpenMessage) (ram : List 
 
 -- an event that closes the message leaves the data cells of its block
 pub closing_keeps_data : (old : Card) (message : OpenMessage) (event : Event)
-    → old.core.message ≡ Open message → Closes old message event
+    → old.core.message ≡ Some message → Closes old message event
     → TableElsewhere (asks message) message → (cell : Cell) → cell.0 < data_cells
     → cell_at (step event old).card.ram message.block cell
     ≡ cell_at old.ram message.block cell

@@ -1,5 +1,6 @@
 -- An open message closes, is dropped, or stays open with all that its opening fixed:
 -- `message_becomes`. For every card, fit or not. Assumes nothing.
+use Rattle.std.proofs.Common.{Option, Some}
 use mathlib.Core.Path.{◌≡◌, refl, ap, ◌∙◌}
 use mathlib.Core.Bool.{Bool}
 use Prim.Native.Nat.{ℕ}
@@ -18,10 +19,7 @@ use Rattle.message.specs.declared.judge.WordAct.TheVariants.{
 use Rattle.message.specs.declared.judge.SilenceAct.{SilenceAct}
 use Rattle.message.specs.declared.judge.SilenceAct.TheVariants as silence_acts
 use Rattle.message.specs.declared.state.Stage.{Stage}
-use Rattle.message.specs.declared.state.Second.{Second}
 use Rattle.message.specs.declared.state.OpenMessage.{OpenMessage}
-use Rattle.message.specs.declared.state.Message.{Message}
-use Rattle.message.specs.declared.state.Message.TheVariants.{Open}
 use Rattle.message.specs.Message.{further, moved_message}
 use Rattle.message.specs.Asked.{asks}
 use Rattle.terminal.specs.State.{Card, with_table, with_flags, with_message}
@@ -71,7 +69,7 @@ same_opening message =
       opened = refl;
     }
 
-same_further : (stage : Stage) (second : Second) (taken : ℕ) (message : OpenMessage)
+same_further : (stage : Stage) (second : Option ℕ) (taken : ℕ) (message : OpenMessage)
     → SameOpening message (further stage second taken message)
 unfolding further
 same_further stage second taken message =
@@ -85,7 +83,7 @@ same_further stage second taken message =
       opened = refl;
     }
 
-module _ (old : Card) (message : OpenMessage) (is_open : old.core.message ≡ Open message) where
+module _ (old : Card) (message : OpenMessage) (is_open : old.core.message ≡ Some message) where
   after_word : (heard : Word) {act : WordAct} → word_judged old message heard ≡ act
       → (step (word heard) old).card.core.message
       ≡ (word_done act (asks message) message heard old).card.core.message
@@ -127,7 +125,7 @@ module _ (old : Card) (message : OpenMessage) (is_open : old.core.message ≡ Op
 
 -- the law
 pub message_becomes : (event : Event) (old : Card) (message : OpenMessage)
-    → old.core.message ≡ Open message → Becomes old message event
+    → old.core.message ≡ Some message → Becomes old message event
 unfolding step read_queue_step host_write_step move_table_step set_flags_step with_table with_flags
     with_message moved_message
 message_becomes (word heard) old message is_open =
@@ -138,7 +136,7 @@ message_becomes read_queue old message is_open = stays is_open (same_opening mes
 message_becomes (host_write address words) old message is_open =
     stays is_open (same_opening message)
 message_becomes (move_table table) old message is_open =
-    stays (ap (λ (there : Message). moved_message there) is_open)
+    stays (ap (λ (there : Option OpenMessage). moved_message there) is_open)
     (record {
       command = refl;
       line = refl;

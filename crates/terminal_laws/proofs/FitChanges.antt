@@ -1,6 +1,7 @@
 -- The changes that a message brings keep the card fit: it goes on, `fit_going_on`, a word opens
 -- one, `fit_opening`, and it closes with a fault or sound, `fit_faulted` and `fit_ended`.
 -- Assumes nothing.
+use Rattle.std.proofs.Common.{None, Option, Some}
 use mathlib.Core.Path.{◌≡◌, refl}
 use mathlib.Core.Bool.{Bool, true, false, cond, ◌&&◌}
 use mathlib.Core.List.{List}
@@ -12,8 +13,6 @@ use Rattle.queue.specs.Queue.{with_joined, fit_queue}
 use Rattle.queue.proofs.FitLaws.{join_keeps_fit}
 use Rattle.message.specs.declared.asked.Asked.{Asked}
 use Rattle.message.specs.declared.state.OpenMessage.{OpenMessage}
-use Rattle.message.specs.declared.state.Message.{Message}
-use Rattle.message.specs.declared.state.Message.TheVariants.{Idle, Open}
 use Rattle.message.specs.Fitness.{fit_message}
 use Rattle.terminal.specs.declared.state.Core.{Core}
 use Rattle.terminal.specs.State.{Card, card, with_status, with_last, with_switches, with_message}
@@ -33,7 +32,7 @@ use Rattle.terminal_laws.proofs.FitMessage.{opened_fits}
 -- ---- going on and opening
 
 -- the core with another message, or none
-fit_with_message : (message : Message) (core : Core)
+fit_with_message : (message : Option OpenMessage) (core : Core)
     → fit_message card_blocks message core.station ≡ true
     → fit_core card_blocks core ≡ true → fit_core card_blocks (with_message message core) ≡ true
 unfolding with_message
@@ -49,10 +48,10 @@ fit_with_message message core fit_message_lem fit =
 -- the open message goes on, whatever is in memory
 pub fit_going_on : (message : OpenMessage) (ram : List ℕ) (old : Card)
     → FitOpen old.core.station message → FitCard old
-    → FitCard (card (with_message (Open message) old.core) old.queue ram)
+    → FitCard (card (with_message (Some message) old.core) old.queue ram)
 fit_going_on message ram old fit_message_lem fit =
     record {
-      core = fit_with_message (Open message) old.core (fit_open_whole fit_message_lem) fit.core;
+      core = fit_with_message (Some message) old.core (fit_open_whole fit_message_lem) fit.core;
       queue = fit.queue;
     }
 
@@ -67,7 +66,7 @@ fit_opening word old to_us fit =
     opened_fits (table_word_at word core old.ram) word core to_us
     (fit_core_parts core fit.core).table in
     record {
-      core = fit_with_message (Open message) core (fit_open_whole fit_message_lem) fit.core;
+      core = fit_with_message (Some message) core (fit_open_whole fit_message_lem) fit.core;
       queue = fit.queue;
     }
 
@@ -86,7 +85,7 @@ fit_closing : (asked : Asked) (state time : ℕ) (message : OpenMessage) (old : 
 unfolding closing closed_queue
 fit_closing asked state time message old on_card fit =
     record {
-      core = fit_with_message Idle old.core refl fit.core;
+      core = fit_with_message None old.core refl fit.core;
       queue =
           fit_closed_queue (asked.block && message.queued) message.block.0 old.queue
           on_card fit.queue;

@@ -1,6 +1,7 @@
 -- An open message is fit when it opens, `opened_fits`, and it stays fit further on: with one more
 -- word, a second command, the wait for its answer, the answer, and when the host has set the table
 -- block. Assumes nothing.
+use Rattle.std.proofs.Common.{None, Option, Some}
 use mathlib.Core.Path.{◌≡◌, refl}
 use mathlib.Core.Bool.{Bool, true, false, cond}
 use Prim.Native.Nat.{ℕ, ◌+◌, ◌≤◌, ◌<◌}
@@ -18,11 +19,7 @@ use Rattle.message.specs.declared.state.Stage.TheVariants.{
   AwaitingStatus,
   Skipping,
 }
-use Rattle.message.specs.declared.state.Second.{Second}
-use Rattle.message.specs.declared.state.Second.TheVariants.{Absent, Command}
 use Rattle.message.specs.declared.state.OpenMessage.{OpenMessage}
-use Rattle.message.specs.declared.state.Message.{Message}
-use Rattle.message.specs.declared.state.Message.TheVariants.{Idle, Open}
 use Rattle.message.specs.Message.{further, moved_message}
 use Rattle.message.specs.Asked.{asked_of, asks}
 use Rattle.message.specs.Words.{is_second}
@@ -40,7 +37,7 @@ fit_block true table_word = omega arith
 fit_block false table_word = omega arith
 
 -- skipping exactly for illegal commands
-fit_first_stage : (illegal : Bool) → fit_stage (cond illegal Skipping Data) illegal Absent 0 ≡ true
+fit_first_stage : (illegal : Bool) → fit_stage (cond illegal Skipping Data) illegal None 0 ≡ true
 fit_first_stage true = refl
 fit_first_stage false = refl
 
@@ -64,7 +61,7 @@ opened_fits table_word word core to_us table =
 
 module _ (station : ℕ) (message : OpenMessage) (fit : FitOpen station message) where
   -- words taken, second command and stage are asked for anew; the rest was fixed at the opening
-  further_fits : (stage : Stage) (second : Second) (taken : ℕ) → taken ≤ (asks message).takes
+  further_fits : (stage : Stage) (second : Option ℕ) (taken : ℕ) → taken ≤ (asks message).takes
       → fit_second second station message.command (asks message).receive ≡ true
       → fit_stage stage (asks message).illegal second taken ≡ true
       → FitOpen station (further stage second taken message)
@@ -91,9 +88,9 @@ module _ (station : ℕ) (message : OpenMessage) (fit : FitOpen station message)
   pub fits_with_second : (value : ℕ) → is_legal message ≡ true
       → (asks message).receive ≡ true → eqb message.taken 0 ≡ true
       → is_second station message.command value ≡ true
-      → FitOpen station (further SecondCommand (Command value) message.taken message)
+      → FitOpen station (further SecondCommand (Some value) message.taken message)
   fits_with_second value legal receive none second =
-      further_fits SecondCommand (Command value) message.taken fit.taken
+      further_fits SecondCommand (Some value) message.taken fit.taken
       (both (asks message).receive (is_second station message.command value) receive second)
       (rw (legal, none))
 
@@ -111,9 +108,9 @@ module _ (station : ℕ) (message : OpenMessage) (fit : FitOpen station message)
       further_fits Data message.second message.taken fit.taken fit.second legal
 
 -- the host has set the table block
-pub moved_fits : (station : ℕ) (message : Message)
+pub moved_fits : (station : ℕ) (message : Option OpenMessage)
     → fit_message card_blocks message station ≡ true
     → fit_message card_blocks (moved_message message) station ≡ true
 unfolding moved_message fit_open
-moved_fits station Idle fit = refl
-moved_fits station (Open message) fit = fit
+moved_fits station None fit = refl
+moved_fits station (Some message) fit = fit

@@ -1,5 +1,6 @@
 -- What refusal 4 asks of an open message, of the core and of the card: `..-parts` takes the test
 -- apart into a record, `..-whole` puts it together again. Assumes nothing.
+use Rattle.std.proofs.Common.{Some}
 use mathlib.Core.Path.{◌≡◌}
 use mathlib.Core.Bool.{Bool, true, not, ◌&&◌, ◌||◌}
 use Prim.Native.Nat.{ℕ, ◌≤◌, ◌<◌}
@@ -12,7 +13,6 @@ use Rattle.card.specs.Memory.{card_blocks, is_block}
 use Rattle.queue.specs.Queue.{fit_queue}
 use Rattle.message.specs.declared.state.Stage.{Stage}
 use Rattle.message.specs.declared.state.OpenMessage.{OpenMessage}
-use Rattle.message.specs.declared.state.Message.TheVariants.{Open}
 use Rattle.message.specs.Asked.{asks}
 use Rattle.message.specs.Fitness.{fit_second, fit_stage, fit_open, fit_message}
 use Rattle.terminal.specs.declared.state.Core.{Core}
@@ -126,14 +126,14 @@ fit_core_whole {core} parts =
 
 -- the message that is open in a fit core
 pub open_parts : (core : Core) (message : OpenMessage)
-    → fit_core card_blocks core ≡ true → core.message ≡ Open message
+    → fit_core card_blocks core ≡ true → core.message ≡ Some message
     → FitOpen core.station message
 open_parts core message fit is =
     fit_open_parts core.station message (rw is at (fit_core_parts core fit).message)
 
 -- its block and its table block are blocks of the card
 pub open_block_fits : (core : Core) (message : OpenMessage)
-    → fit_core card_blocks core ≡ true → core.message ≡ Open message
+    → fit_core card_blocks core ≡ true → core.message ≡ Some message
     → (message.block.0 < card_blocks) × (message.table.0 < card_blocks)
 open_block_fits core message fit is =
     let parts = open_parts core message fit is in

@@ -1,4 +1,5 @@
 -- A silence keeps the card fit, `fit_silence`. Assumes nothing.
+use Rattle.std.proofs.Common.{None, Option, Some}
 use mathlib.Core.Path.{◌≡◌}
 use mathlib.Core.Bool.{Bool, true, false, cond, not, beq}
 use Prim.Native.Nat.{ℕ}
@@ -14,8 +15,6 @@ use Rattle.message.specs.declared.state.Stage.TheVariants.{
   Skipping,
 }
 use Rattle.message.specs.declared.state.OpenMessage.{OpenMessage}
-use Rattle.message.specs.declared.state.Message.{Message}
-use Rattle.message.specs.declared.state.Message.TheVariants.{Idle, Open}
 use Rattle.message.specs.Asked.{asks}
 use Rattle.message.specs.Silence.{silence_in_stage, on_silence}
 use Rattle.message.specs.Fitness.{fit_message}
@@ -59,10 +58,10 @@ module _ (message : OpenMessage) (time : ℕ) (old : Card)
       go false = fit_silence_in_stage message.stage parts.stage
 
 -- a silence, whether or not a message is open
-pub fit_silence : (message : Message) (line : Bool) (time : ℕ) (old : Card)
+pub fit_silence : (message : Option OpenMessage) (line : Bool) (time : ℕ) (old : Card)
     → fit_message card_blocks message old.core.station ≡ true → FitCard old
     → FitCard (silence_met message line time old).card
-fit_silence Idle line time old fit_message_lem fit = fit
-fit_silence (Open message) line time old fit_message_lem fit =
+fit_silence None line time old fit_message_lem fit = fit
+fit_silence (Some message) line time old fit_message_lem fit =
     fit_silence_open message time old (fit_open_parts old.core.station message fit_message_lem) fit
     line

@@ -1,6 +1,7 @@
 -- A word keeps the card fit, `fit_word`. Whatever it decides leaves a fit message, or opens by a
 -- command that is addressed to the station or to all: `word_fits`, by `search` through the tests of
 -- rules 1 to 8. Assumes nothing.
+use Rattle.std.proofs.Common.{None, Option, Some, is_some}
 use mathlib.Core.Path.{◌≡◌, refl}
 use mathlib.Core.Bool.{Bool, true, false, cond, not, ◌&&◌, ◌||◌}
 use Prim.Native.Nat.{ℕ, ◌+◌, ◌%◌}
@@ -28,11 +29,8 @@ use Rattle.message.specs.declared.state.Stage.TheVariants.{
   AwaitingStatus,
   Skipping,
 }
-use Rattle.message.specs.declared.state.Second.TheVariants.{Command}
 use Rattle.message.specs.declared.state.OpenMessage.{OpenMessage}
-use Rattle.message.specs.declared.state.Message.{Message}
-use Rattle.message.specs.declared.state.Message.TheVariants.{Idle, Open}
-use Rattle.message.specs.Message.{further, has_second}
+use Rattle.message.specs.Message.{further}
 use Rattle.message.specs.Asked.{asks}
 use Rattle.message.specs.Words.{own_command}
 use Rattle.message.specs.Words.{
@@ -75,7 +73,7 @@ data FitAct (station : ℕ) (message : OpenMessage) (word : Word) : WordAct → 
   checks : FitOpen station (further Data message.second (message.taken + 1) message)
       → FitAct station message word (Check (message.taken + 1))
   takes_second : {value : ℕ}
-      → FitOpen station (further SecondCommand (Command value) message.taken message)
+      → FitOpen station (further SecondCommand (Some value) message.taken message)
       → FitAct station message word (TakeSecond value)
   takes_status : FitOpen station (further Data message.second message.taken message)
       → FitAct station message word TakeStatus
@@ -126,15 +124,15 @@ module _ (station : ℕ) (message : OpenMessage) (word : Word) (fit : FitOpen st
   -- rule 6 takes a second command as the first word of a data receive
   second_fits : is_legal message ≡ true
       → (word.sync && (asks message).receive && eqb message.taken 0
-      && not (has_second message.second)) ≡ true
+      && not (is_some message.second)) ≡ true
       → is_second station message.command word.value ≡ true
-      → FitOpen station (further SecondCommand (Command word.value) message.taken message)
+      → FitOpen station (further SecondCommand (Some word.value) message.taken message)
   second_fits legal first second =
       let sync = word.sync in
       let receive = (asks message).receive in
       let none = eqb message.taken 0 in
       let to_none =
-      first_of_both (sync && receive && none) (not (has_second message.second)) first in
+      first_of_both (sync && receive && none) (not (is_some message.second)) first in
       fits_with_second station message fit word.value legal
       (second_of_both sync receive (first_of_both (sync && receive) none to_none))
       (second_of_both (sync && receive) none to_none) second
@@ -158,7 +156,7 @@ module _ (station : ℕ) (message : OpenMessage) (word : Word) (fit : FitOpen st
   stage_fits SecondCommand reached = search acts depth 12
   stage_fits AwaitingStatus reached =
       let legal = is_legal message in
-      let second = has_second message.second in
+      let second = is_some message.second in
       let answered =
       fits_with_status station message fit
       (first_of_both legal second
@@ -211,12 +209,12 @@ fit_word_idle true word old own fit =
 fit_word_idle false word old own fit = fit
 
 -- a word, whether or not a message is open
-pub fit_word : (message : Message) (word : Word) (old : Card)
+pub fit_word : (message : Option OpenMessage) (word : Word) (old : Card)
     → fit_message card_blocks message old.core.station ≡ true → FitCard old
     → FitCard (word_met message word old).card
-fit_word Idle word old fit_message_lem fit =
+fit_word None word old fit_message_lem fit =
     fit_word_idle (own_command old.core.station old.core.flags word) word old refl fit
-fit_word (Open message) word old fit_message_lem fit =
+fit_word (Some message) word old fit_message_lem fit =
     let parts = fit_open_parts old.core.station message fit_message_lem in
     fit_word_done message _ word old parts fit
     (word_fits old.core.station message word parts old.core.flags)

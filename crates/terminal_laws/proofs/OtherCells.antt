@@ -2,6 +2,7 @@
 -- of the open message's block, and `cells_elsewhere_kept`, every cell of every other block; save
 -- the table cell. With nothing open they write nothing, nor do the host's actions but the write of
 -- words. For every card, fit or not, over memory of any length. Assumes nothing.
+use Rattle.std.proofs.Common.{None, Some}
 use mathlib.Core.Path.{◌≡◌, subst}
 use mathlib.Core.Logic.{◌≢◌}
 use Prim.Native.Nat.{ℕ, ◌≤◌, ◌<◌}
@@ -12,7 +13,6 @@ use Rattle.card.specs.declared.place.Cell.{Cell}
 use Rattle.card.specs.Memory.{block_cells, word_address, cell_at}
 use Rattle.card.proofs.MemoryLaws.{same_block}
 use Rattle.message.specs.declared.state.OpenMessage.{OpenMessage}
-use Rattle.message.specs.declared.state.Message.TheVariants.{Idle, Open}
 use Rattle.terminal.specs.State.{Card}
 use Rattle.terminal.specs.Event.{Event}
 use Rattle.terminal.specs.Machine.{step}
@@ -53,14 +53,14 @@ action_may_write_nothing old action (table_cell with_block closes stays is) =
 action_may_write_nothing old action (data_cell with_block stores is) = elim action [ ]
 action_may_write_nothing old action (host_cell from below) = elim action [ ]
 
-not_idle : {message : OpenMessage} (old : Card) → old.core.message ≡ Idle
+not_idle : {message : OpenMessage} (old : Card) → old.core.message ≡ None
     → OpenWithBlock old message → ⊥
 not_idle old idle with_block =
     let is_open = with_block.is_open in clash (cc)
 
 -- words and silences where nothing is open
 pub idle_may_write_nothing : {event : Event} {address : ℕ} (old : Card)
-    → old.core.message ≡ Idle → OnBus event → MayWrite old event address → ⊥
+    → old.core.message ≡ None → OnBus event → MayWrite old event address → ⊥
 idle_may_write_nothing old idle a_word (data_cell with_block stores is) =
     not_idle old idle with_block
 idle_may_write_nothing old idle a_word (service_cell with_block closes from to is) =
@@ -82,7 +82,7 @@ data Place (message : OpenMessage) (address : ℕ) : Type 0 where
       → address ≡ word_address message.block cell → Place message address
   in_table : address ≡ table_address message → Place message address
 
-module _ (old : Card) (message : OpenMessage) (is_open : old.core.message ≡ Open message) where
+module _ (old : Card) (message : OpenMessage) (is_open : old.core.message ≡ Some message) where
   -- the message that is open is that one
   same_place : {other : OpenMessage} {address : ℕ} → OpenWithBlock old other
       → Place other address → Place message address
@@ -114,7 +114,7 @@ module _ (old : Card) (message : OpenMessage) (is_open : old.core.message ≡ Op
 
 -- the terminal never writes other cells of a message's block, save the table cell
 pub other_cells_kept : {event : Event} (old : Card) (message : OpenMessage) (cell : Cell)
-    → old.core.message ≡ Open message → OnBus event
+    → old.core.message ≡ Some message → OnBus event
     → OtherCell cell → word_address message.block cell ≢ table_address message
     → cell_at (step event old).card.ram message.block cell
     ≡ cell_at old.ram message.block cell
@@ -129,7 +129,7 @@ other_cells_kept old message cell is_open on_bus other no_table =
 -- nor any cell of another block
 pub cells_elsewhere_kept : {event : Event} (old : Card) (message : OpenMessage) (block : Block)
     (cell : Cell)
-    → old.core.message ≡ Open message → OnBus event
+    → old.core.message ≡ Some message → OnBus event
     → block ≢ message.block → cell.0 < block_cells → word_address block cell ≢ table_address message
     → cell_at (step event old).card.ram block cell ≡ cell_at old.ram block cell
 cells_elsewhere_kept old message block cell is_open on_bus elsewhere inside no_table =

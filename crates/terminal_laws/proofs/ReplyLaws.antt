@@ -1,6 +1,7 @@
 -- The words that a reply sends are those in memory at the silence, though they are read after the
 -- closing: cell by cell `sent_cells_stay`, a reply's values `words_of_the_silence`. For every card,
 -- fit or not, over memory of any length. Assumes nothing.
+use Rattle.std.proofs.Common.{Some}
 use mathlib.Core.Path.{◌≡◌, refl, sym, ap, subst, ◌∙◌}
 use mathlib.Core.Bool.{Bool, true, false, cond, not, ◌&&◌}
 use mathlib.Core.List.{List, ◌∷◌}
@@ -19,7 +20,6 @@ use Rattle.card.proofs.PartLaws.{same_part}
 use Rattle.message.specs.declared.judge.SilenceAct.{SilenceAct}
 use Rattle.message.specs.declared.judge.SilenceAct.TheVariants.{Ignore, AwaitStatus, Fault, End}
 use Rattle.message.specs.declared.state.OpenMessage.{OpenMessage}
-use Rattle.message.specs.declared.state.Message.TheVariants.{Open}
 use Rattle.message.specs.Asked.{asks}
 use Rattle.message.proofs.AskedBounds.{sends_by_high_cell, cell_in_table}
 use Rattle.terminal.specs.declared.state.Reply.{Reply}
@@ -88,7 +88,7 @@ high_cell (some_words high) = high
 
 module _ (line : Bool) (time : ℕ) (old : Card) (status : ℕ) (block : Block) (count : ℕ)
     (replied : (step (silence line time) old).answer ≡ Replied (Words status block count)) where
-  high_table_cell : (message : OpenMessage) → old.core.message ≡ Open message
+  high_table_cell : (message : OpenMessage) → old.core.message ≡ Some message
       → 32 ≤ (asks message).cell.0
   high_table_cell message is_open =
       high_cell

@@ -1,5 +1,6 @@
 -- A card that is whole and fit stays so, `whole_and_fit_stays`, and at rest while nothing opens,
 -- `rest_stays`; the blocks of its messages lie in its memory. Assumes nothing.
+use Rattle.std.proofs.Common.{None, Option, Some}
 use mathlib.Core.Path.{◌≡◌, ◌∙◌}
 use mathlib.Core.Bool.{Bool, true, false, cond}
 use mathlib.Core.List.{List, [], ◌∷◌}
@@ -10,8 +11,6 @@ use Rattle.rules.proofs.Clash.{clash}
 use Rattle.bus.specs.declared.word.Word.{Word}
 use Rattle.card.specs.Memory.{block_cells, the_cell, word_address}
 use Rattle.message.specs.declared.state.OpenMessage.{OpenMessage}
-use Rattle.message.specs.declared.state.Message.{Message}
-use Rattle.message.specs.declared.state.Message.TheVariants.{Idle, Open}
 use Rattle.message.specs.Asked.{asked_of}
 use Rattle.message.specs.Message.{moved_message}
 use Rattle.message.specs.Words.{own_command}
@@ -68,22 +67,22 @@ whole_and_fit_run (event ∷ events) old in_order sound =
 
 -- ---- at rest
 
-own_stays : (own : Bool) (heard : Word) (old : Card) → old.core.message ≡ Idle
+own_stays : (own : Bool) (heard : Word) (old : Card) → old.core.message ≡ None
     → (cond own (opens heard old) (quietly old)).opened ≡ none
-    → (cond own (opens heard old) (quietly old)).card.core.message ≡ Idle
+    → (cond own (opens heard old) (quietly old)).card.core.message ≡ None
 own_stays true heard old idle nothing = absurd (opens_something (asked_of heard.value) nothing)
 own_stays false heard old idle nothing = idle
 
-word_stays : (message : Message) (heard : Word) (old : Card)
-    → old.core.message ≡ Idle → message ≡ Idle → (word_met message heard old).opened ≡ none
-    → (word_met message heard old).card.core.message ≡ Idle
-word_stays Idle heard old idle is nothing =
+word_stays : (message : Option OpenMessage) (heard : Word) (old : Card)
+    → old.core.message ≡ None → message ≡ None → (word_met message heard old).opened ≡ none
+    → (word_met message heard old).card.core.message ≡ None
+word_stays None heard old idle is nothing =
     own_stays (own_command old.core.station old.core.flags heard) heard old idle nothing
-word_stays (Open message) heard old idle is nothing = absurd (clash (cc))
+word_stays (Some message) heard old idle is nothing = absurd (clash (cc))
 
 -- with nothing open, what opens nothing leaves nothing open
-idle_stays : (event : Event) (old : Card) → old.core.message ≡ Idle
-    → (step event old).opened ≡ none → (step event old).card.core.message ≡ Idle
+idle_stays : (event : Event) (old : Card) → old.core.message ≡ None
+    → (step event old).opened ≡ none → (step event old).card.core.message ≡ None
 unfolding step word_step silence_step read_queue_step host_write_step move_table_step set_flags_step
     with_table with_flags with_message moved_message
 idle_stays (word heard) old idle nothing =
@@ -105,7 +104,7 @@ rest_stays event old in_order nothing rest =
 -- ---- blocks in memory
 
 module _ (old : Card) (sound : WholeAndFit old) where
-  module _ (message : OpenMessage) (is_open : old.core.message ≡ Open message) where
+  module _ (message : OpenMessage) (is_open : old.core.message ≡ Some message) where
     -- the block of the open message, to its last cell
     pub block_in_memory : word_address message.block (the_cell block_cells) ≤ length old.ram
     block_in_memory =

@@ -1,5 +1,6 @@
 -- The remembered status has the terminal's own address at setup, `own_at_setup`, after every event,
 -- `own_status_stays`, and so after every run, `own_status_run`. Assumes nothing.
+use Rattle.std.proofs.Common.{None, Option, Some}
 use mathlib.Core.Path.{◌≡◌, refl, ◌∙◌}
 use mathlib.Core.Bool.{Bool, true, false, cond}
 use mathlib.Core.List.{List, [], ◌∷◌}
@@ -26,8 +27,6 @@ use Rattle.message.specs.declared.judge.WordAct.TheVariants.{
 use Rattle.message.specs.declared.judge.SilenceAct.{SilenceAct}
 use Rattle.message.specs.declared.judge.SilenceAct.TheVariants as silences
 use Rattle.message.specs.declared.state.OpenMessage.{OpenMessage}
-use Rattle.message.specs.declared.state.Message.{Message}
-use Rattle.message.specs.declared.state.Message.TheVariants.{Idle, Open}
 use Rattle.message.specs.Asked.{asked_of, asks}
 use Rattle.message.specs.Words.{own_command, on_word}
 use Rattle.message.specs.Silence.{on_silence}
@@ -134,15 +133,15 @@ module _ (station : ℕ) (five_bits : station < 32) where
       (faulted_stays asked 7 heard.time message old stays)
   word_done_stays Drop asked message heard old stays = opened_stays heard old stays
 
-  word_met_stays : (message : Message) (heard : Word) (old : Card)
+  word_met_stays : (message : Option OpenMessage) (heard : Word) (old : Card)
       → Stays station old → Stays station (word_met message heard old).card
-  word_met_stays Idle heard old stays =
+  word_met_stays None heard old stays =
       go (own_command old.core.station old.core.flags heard)
     where
       go : (own : Bool) → Stays station (cond own (opens heard old) (quietly old)).card
       go true = opened_stays heard old stays
       go false = stays
-  word_met_stays (Open message) heard old stays =
+  word_met_stays (Some message) heard old stays =
       word_done_stays
       (on_word old.core.station old.core.flags (asks message) message heard)
       (asks message) message heard old stays
@@ -159,10 +158,10 @@ module _ (station : ℕ) (five_bits : station < 32) where
   silence_done_stays silences.End asked message time old stays =
       ended_stays asked time message old stays
 
-  silence_met_stays : (message : Message) (line : Bool) (time : ℕ) (old : Card)
+  silence_met_stays : (message : Option OpenMessage) (line : Bool) (time : ℕ) (old : Card)
       → Stays station old → Stays station (silence_met message line time old).card
-  silence_met_stays Idle line time old stays = stays
-  silence_met_stays (Open message) line time old stays =
+  silence_met_stays None line time old stays = stays
+  silence_met_stays (Some message) line time old stays =
       silence_done_stays (on_silence (asks message) message line) (asks message) message time old
       stays
 

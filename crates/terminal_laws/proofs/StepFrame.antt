@@ -3,6 +3,7 @@
 --     step-writes-only           the law
 --     word-step, silence-step    what a step does where a message is open
 -- Assumes nothing.
+use Rattle.std.proofs.Common.{None, Option, Some}
 use mathlib.Core.Path.{◌≡◌, refl, ap, ◌∙◌}
 use mathlib.Core.Bool.{Bool, true, false, cond}
 use mathlib.Core.List.{List}
@@ -36,8 +37,6 @@ use Rattle.message.specs.declared.judge.WordAct.TheVariants.{
 use Rattle.message.specs.declared.judge.SilenceAct.{SilenceAct}
 use Rattle.message.specs.declared.judge.SilenceAct.TheVariants as silence_acts
 use Rattle.message.specs.declared.state.OpenMessage.{OpenMessage}
-use Rattle.message.specs.declared.state.Message.{Message}
-use Rattle.message.specs.declared.state.Message.TheVariants.{Idle, Open}
 use Rattle.message.specs.Asked.{asks}
 use Rattle.message.specs.Words.{own_command}
 use Rattle.terminal.specs.State.{Card}
@@ -85,12 +84,12 @@ use Rattle.terminal_laws.proofs.StoreLaws.{stores_with_block, stores_data}
 
 -- ---- what a step does where a message is open, by what the word or the silence was judged
 
-module _ (old : Card) (message : OpenMessage) (is_open : old.core.message ≡ Open message) where
+module _ (old : Card) (message : OpenMessage) (is_open : old.core.message ≡ Some message) where
   pub word_step_lem : (heard : Word) {act : WordAct} → word_judged old message heard ≡ act
       → step (word heard) old ≡ word_done act (asks message) message heard old
   unfolding step word_step
   word_step_lem heard judged =
-      ap (λ (there : Message). word_met there heard old) is_open
+      ap (λ (there : Option OpenMessage). word_met there heard old) is_open
       ∙ ap (λ (act : WordAct). word_done act (asks message) message heard old) judged
 
   pub silence_step_lem : (line : Bool) (time : ℕ) {act : SilenceAct}
@@ -99,7 +98,7 @@ module _ (old : Card) (message : OpenMessage) (is_open : old.core.message ≡ Op
       ≡ silence_done act (asks message) message time old
   unfolding step silence_step
   silence_step_lem line time judged =
-      ap (λ (there : Message). silence_met there line time old) is_open
+      ap (λ (there : Option OpenMessage). silence_met there line time old) is_open
       ∙ ap (λ (act : SilenceAct). silence_done act (asks message) message time old)
       judged
 
@@ -159,7 +158,7 @@ module _ {Written : ℕ → Type 0} where
 
 -- ---- one event
 
-module _ (old : Card) (message : OpenMessage) (is_open : old.core.message ≡ Open message) where
+module _ (old : Card) (message : OpenMessage) (is_open : old.core.message ≡ Some message) where
   abbrev with_block : (asks message).block ≡ true → OpenWithBlock old message
   with_block has = record { is_open = is_open; has_block = has }
 
@@ -221,11 +220,11 @@ word_writes : (heard : Word) (old : Card)
 unfolding step word_step
 word_writes heard old = go old.core.message refl
   where
-    go : (message : Message) → old.core.message ≡ message
+    go : (message : Option OpenMessage) → old.core.message ≡ message
         → WritesOnly (MayWrite old (word heard)) old.ram (word_met message heard old).card.ram
-    go Idle is =
+    go None is =
         idle_writes (own_command old.core.station old.core.flags heard) heard old
-    go (Open message) is =
+    go (Some message) is =
         word_done_writes old message is (word_judged old message heard) heard refl
 
 silence_writes : (line : Bool) (time : ℕ) (old : Card)
@@ -234,11 +233,11 @@ silence_writes : (line : Bool) (time : ℕ) (old : Card)
 unfolding step silence_step
 silence_writes line time old = go old.core.message refl
   where
-    go : (message : Message) → old.core.message ≡ message
+    go : (message : Option OpenMessage) → old.core.message ≡ message
         → WritesOnly (MayWrite old (silence line time)) old.ram
         (silence_met message line time old).card.ram
-    go Idle is = nothing_written old.ram
-    go (Open message) is =
+    go None is = nothing_written old.ram
+    go (Some message) is =
         silence_done_writes old message is (silence_judged message line) line time refl
 
 -- the law

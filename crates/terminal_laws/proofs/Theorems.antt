@@ -1,6 +1,7 @@
 -- The theorems over every event and every run of the terminal, each by its statement. The words are
 -- those of `specs/` here and in `terminal`; the proofs stand in the files that are cited. Assumes
 -- nothing.
+use Rattle.std.proofs.Common.{Some}
 use mathlib.Core.Path.{◌≡◌}
 use mathlib.Core.Logic.{◌≢◌}
 use mathlib.Core.Bool.{Bool}
@@ -10,7 +11,6 @@ use Rattle.bus.specs.declared.word.Word.{Word}
 use Rattle.card.specs.declared.place.Cell.{Cell}
 use Rattle.card.specs.Memory.{word_address, cell_at}
 use Rattle.message.specs.declared.state.OpenMessage.{OpenMessage}
-use Rattle.message.specs.declared.state.Message.TheVariants.{Open}
 use Rattle.terminal.specs.declared.state.Reply.{Reply}
 use Rattle.terminal.specs.declared.state.Answer.TheVariants.{Replied}
 use Rattle.terminal.specs.State.{Card}
@@ -62,7 +62,7 @@ step_writes_only = frame.step_writes_only
 
 -- .. so are the other cells of a message's block, save the table cell
 other_cells_kept : {event : Event} (old : Card) (message : OpenMessage) (cell : Cell)
-    → old.core.message ≡ Open message → OnBus event
+    → old.core.message ≡ Some message → OnBus event
     → OtherCell cell → word_address message.block cell ≢ table_address message
     → cell_at (step event old).card.ram message.block cell
     ≡ cell_at old.ram message.block cell
@@ -70,7 +70,7 @@ other_cells_kept = cells.other_cells_kept
 
 -- an open message closes, or is dropped, or stays open as it was opened
 message_becomes : (event : Event) (old : Card) (message : OpenMessage)
-    → old.core.message ≡ Open message → Becomes old message event
+    → old.core.message ≡ Some message → Becomes old message event
 message_becomes = closes.message_becomes
 
 -- a closing puts the link of its block into its table cell

@@ -1,7 +1,6 @@
 -- A card that is whole and fit, and one that is at rest too. Definitions only. Assumes nothing.
-use Rattle.std.specs.Prelude.{◌≡◌, true, length}
+use Rattle.std.specs.Prelude.{◌≡◌, true, length, None}
 use Rattle.card.specs.Memory.{card_words}
-use Rattle.message.specs.declared.state.Message.TheVariants.{Idle}
 use Rattle.terminal.specs.State.{Card}
 use Rattle.terminal.specs.Fitness.{fit_card}
 
@@ -13,4 +12,4 @@ pub record WholeAndFit (old : Card) : Type 0 where
 -- .. and no message is open
 pub record AtRest (old : Card) : Type 0 where
   pub whole_and_fit : WholeAndFit old
-  pub idle : old.core.message ≡ Idle
+  pub idle : old.core.message ≡ None

@@ -1,13 +1,11 @@
 -- The chain rule, for memory of any length: a closing, sound or broken, takes its chain on by the
 -- link of its block, and the next opening by that table cell takes the block that the link names.
 -- Definitions only; proved in `proofs/ChainLaws`. Assumes nothing.
-use Rattle.std.specs.Prelude.{◌≡◌, ◌≢◌, true, false, List, [], ◌∷◌, ◌++◌, ℕ, ◌<◌, length}
+use Rattle.std.specs.Prelude.{◌≡◌, ◌≢◌, true, false, List, [], ◌∷◌, ◌++◌, ℕ, ◌<◌, length, Option, Some}
 use Rattle.bus.specs.declared.word.Word.{Word}
 use Rattle.card.specs.Memory.{the_cell, cell_at}
 use Rattle.card.specs.TableWord.{block_of}
 use Rattle.message.specs.declared.state.OpenMessage.{OpenMessage}
-use Rattle.message.specs.declared.state.Message.{Message}
-use Rattle.message.specs.declared.state.Message.TheVariants.{Open}
 use Rattle.message.specs.Asked.{asked_of, asks}
 use Rattle.terminal.specs.State.{Card}
 use Rattle.terminal.specs.Event.{Event, word, none}
@@ -52,6 +50,6 @@ pub record OpensNext (message : OpenMessage) (between : List Event) (heard : Wor
   pub opens_by : OpensBy message heard (run between old)
 
 -- a message is open in the block that a table word names
-pub data OpenIn (table_word : ℕ) : Message → Type 0 where
+pub data OpenIn (table_word : ℕ) : Option OpenMessage → Type 0 where
   open_in : {message : OpenMessage} → message.block ≡ block_of table_word
-      → OpenIn table_word (Open message)
+      → OpenIn table_word (Some message)

@@ -1,13 +1,12 @@
 -- Which events close the open message, and what becomes of it otherwise. Definitions only. Assumes
 -- nothing.
-use Rattle.std.specs.Prelude.{◌≡◌, Bool, true, ℕ}
+use Rattle.std.specs.Prelude.{◌≡◌, Bool, true, ℕ, Some}
 use Rattle.bus.specs.declared.word.Word.{Word}
 use Rattle.message.specs.declared.judge.WordAct.{WordAct}
 use Rattle.message.specs.declared.judge.WordAct.TheVariants as word_acts
 use Rattle.message.specs.declared.judge.SilenceAct.{SilenceAct}
 use Rattle.message.specs.declared.judge.SilenceAct.TheVariants as silence_acts
 use Rattle.message.specs.declared.state.OpenMessage.{OpenMessage}
-use Rattle.message.specs.declared.state.Message.TheVariants.{Open}
 use Rattle.message.specs.Asked.{asks}
 use Rattle.message.specs.Words.{on_word}
 use Rattle.message.specs.Silence.{on_silence}
@@ -17,7 +16,7 @@ use Rattle.terminal.specs.Machine.{step}
 
 -- the message is open on the card, and has a block
 pub record OpenWithBlock (old : Card) (message : OpenMessage) : Type 0 where
-  pub is_open : old.core.message ≡ Open message
+  pub is_open : old.core.message ≡ Some message
   pub has_block : (asks message).block ≡ true
 
 -- what a word is to the message, and what a silence is
@@ -57,5 +56,5 @@ pub data Becomes (old : Card) (message : OpenMessage) : Event → Type 0 where
   dropped : {heard : Word}
       → word_judged old message heard ≡ word_acts.Drop → Becomes old message (word heard)
   stays : {event : Event} {later : OpenMessage}
-      → (step event old).card.core.message ≡ Open later → SameOpening message later
+      → (step event old).card.core.message ≡ Some later → SameOpening message later
       → Becomes old message event

@@ -1,22 +1,6 @@
 -- One broken message costs one block: what is asked of two runs, `BrokenMessage`, and what is then
 -- the same in both, `SameAfter`. Definitions only; proved in `proofs/OneBlock`. Assumes nothing.
-use Rattle.std.specs.Prelude.{
-  ◌≡◌,
-  ◌≢◌,
-  Bool,
-  true,
-  false,
-  List,
-  [],
-  ◌∷◌,
-  ℕ,
-  ◌≤◌,
-  ◌<◌,
-  length,
-  get_or,
-  take,
-  drop,
-}
+use Rattle.std.specs.Prelude.{◌≡◌, ◌≢◌, Bool, true, false, List, [], ◌∷◌, ℕ, ◌≤◌, ◌<◌, length, get_or, take, drop, None, Option, Some}
 use Rattle.bus.specs.declared.kind.Kind.TheVariants.{Receive, ModeStatus, ModeLast}
 use Rattle.bus.specs.declared.word.Word.{Word}
 use Rattle.bus.specs.Kind.{kind_of}
@@ -26,8 +10,6 @@ use Rattle.card.specs.declared.place.Cell.{Cell}
 use Rattle.card.specs.Memory.{the_cell, word_address}
 use Rattle.queue.specs.declared.Queue.{Queue}
 use Rattle.message.specs.declared.state.OpenMessage.{OpenMessage}
-use Rattle.message.specs.declared.state.Message.{Message}
-use Rattle.message.specs.declared.state.Message.TheVariants.{Idle, Open}
 use Rattle.terminal.specs.declared.state.Reply.TheVariants.{Status, Words, Last}
 use Rattle.terminal.specs.declared.state.Answer.{Answer}
 use Rattle.terminal.specs.declared.state.Answer.TheVariants.{Replied}
@@ -62,18 +44,18 @@ still_before before afresh = false
 
 -- every answer is the same; second exception: the message error bit in a reply to "transmit status
 -- word" or "transmit last command", which is the command of the message that was open
-pub data SameAnswer : Bool → Message → Answer → Answer → Type 0 where
-  same : {before : Bool} {message : Message} {answer : Answer}
+pub data SameAnswer : Bool → Option OpenMessage → Answer → Answer → Type 0 where
+  same : {before : Bool} {message : Option OpenMessage} {answer : Answer}
       → SameAnswer before message answer answer
   status_but_error : {message : OpenMessage} {status other : ℕ}
       → kind_of message.command ≡ ModeStatus → without_error status ≡ without_error other
-      → SameAnswer true (Open message) (Replied (Status status)) (Replied (Status other))
+      → SameAnswer true (Some message) (Replied (Status status)) (Replied (Status other))
   last_but_error : {message : OpenMessage} {status other last : ℕ}
       → kind_of message.command ≡ ModeLast → without_error status ≡ without_error other
-      → SameAnswer true (Open message) (Replied (Last status last)) (Replied (Last other last))
+      → SameAnswer true (Some message) (Replied (Last status last)) (Replied (Last other last))
 
 -- what one event brings: the answer, with the words that it sends from a block, and the card
-pub record SameOutcome (Spent : Block → Type 0) (before : Bool) (message : Message)
+pub record SameOutcome (Spent : Block → Type 0) (before : Bool) (message : Option OpenMessage)
     (here there : Outcome) : Type 0 where
   pub answer : SameAnswer before message here.answer there.answer
   pub words : (status : ℕ) (block : Block) (count : ℕ)
@@ -93,7 +75,7 @@ Later Spent before (event ∷ after) here there =
 -- the claim; where both messages have closed, the cards are alike before the next event too
 pub record SameAfter (Spent : Block → Type 0) (after : List Event) (here there : Card)
     : Type 0 where
-  pub at_once : here.core.message ≡ Idle → there.core.message ≡ Idle → Alike Spent here there
+  pub at_once : here.core.message ≡ None → there.core.message ≡ None → Alike Spent here there
   pub later : Later Spent true after here there
 
 -- the stretch where the runs part has only silences, and words that open nothing: no host action
@@ -109,7 +91,7 @@ pub data Calm : List Event → Card → Type 0 where
 -- message, in the first run at least
 pub data BothOver (here there : Card) : List Event → Type 0 where
   closed : {after : List Event}
-      → here.core.message ≡ Idle → there.core.message ≡ Idle → BothOver here there after
+      → here.core.message ≡ None → there.core.message ≡ None → BothOver here there after
   superseded : {after : List Event} (command : Word)
       → (step (word command) here).opened ≢ none → command.joined ≡ false
       → BothOver here there (word command ∷ after)
@@ -124,9 +106,9 @@ Spared Spent (event ∷ after) card =
     × Spared Spent after (step event card).card
 
 -- the one spent block: that of the message that the command opened
-unfoldable pub ThatBlock : Message → Block → Type 0
-ThatBlock Idle block = ⊥
-ThatBlock (Open message) block = block ≡ message.block
+unfoldable pub ThatBlock : Option OpenMessage → Block → Type 0
+ThatBlock None block = ⊥
+ThatBlock (Some message) block = block ≡ message.block
 
 -- all that is asked: the runs share what led to `card`, where a data receive command opens a
 -- message; then the one has `one` and the other `two`; and then both go on with `after`

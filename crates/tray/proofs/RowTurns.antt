@@ -1,32 +1,9 @@
 -- What `take_row` leaves: the turns that are left lead where all of them led (`row_taken_lem`), by
 -- the law of every row: a data word is a field that prints nothing, and the terminal stores a row
 -- as so many words. Assumes nothing.
-use Rattle.std.proofs.Common.{
-  ◌≡◌,
-  ℕ,
-  ◌+◌,
-  ◌-◌,
-  ◌*◌,
-  ◌%◌,
-  ◌^◌,
-  ◌<◌,
-  ◌≤◌,
-  Bool,
-  true,
-  ◌≢◌,
-  List,
-  [],
-  map,
-  sym,
-  refl,
-  ap,
-  ◌∙◌,
-  subst,
-  arith,
-}
+use Rattle.std.proofs.Common.{◌≡◌, ℕ, ◌+◌, ◌-◌, ◌*◌, ◌%◌, ◌^◌, ◌<◌, ◌≤◌, Bool, true, ◌≢◌, List, [], map, sym, refl, ap, ◌∙◌, subst, arith, Some}
 use Rattle.bus.specs.declared.word.Word.{Word}
 use Rattle.message.specs.declared.state.OpenMessage.{OpenMessage}
-use Rattle.message.specs.declared.state.Message.TheVariants.{Open}
 use Rattle.message.specs.Wants.{wants}
 use Rattle.message.proofs.WantsLaws.{wanting_more}
 use Rattle.terminal.specs.declared.state.Core.{Core}
@@ -109,7 +86,7 @@ row_after old message taken core fields offset is_core is_fields is_offset =
 -- ---- a row is as many turns
 
 module _ (old : HeldPassed) (message : OpenMessage) (window ram ram' : List ℕ) (room most end : ℕ)
-    (taken : Taken) (is_open : old.tray.held.core.message ≡ Open message)
+    (taken : Taken) (is_open : old.tray.held.core.message ≡ Some message)
     (is_end : end ≡ wants message)
     (is_taken_lem : row_left taken ram'
     ≡ row_taken window old.at message.line old.tray.seen.setup room most

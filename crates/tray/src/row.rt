@@ -5,7 +5,7 @@ ghost use Rattle.tray.specs.AsCoded.Row.{passed_after, RowTaken};
 
 use crate::run::Tray;
 use crate::window::Passed;
-use message::state::{Message, OpenMessage};
+use message::state::OpenMessage;
 use rows::{Row, Taken};
 use std::num;
 use terminal::state::Held;
@@ -59,7 +59,7 @@ pub(crate) fn take_row(
     let held = tray.held;
     let core = held.core;
     let state = core.message;
-    let Message::Open(message) = state else {
+    let Some(message) = state else {
         return Rowed {
             passed: passed,
             left: most,

@@ -1,5 +1,6 @@
 -- What the program prints of state and cells is whole: both texts have room in its buffer, so that
 -- `fitted` cuts nothing. Assumes nothing.
+use Rattle.std.proofs.Common.{None, Option, Some}
 use mathlib.Core.Path.{◌≡◌}
 use mathlib.Core.Bool.{Bool, true, false, cond}
 use mathlib.Core.List.{List, [], ◌∷◌, ◌++◌}
@@ -17,11 +18,7 @@ use Rattle.message.specs.declared.state.Stage.TheVariants.{
   AwaitingStatus,
   Skipping,
 }
-use Rattle.message.specs.declared.state.Second.{Second}
-use Rattle.message.specs.declared.state.Second.TheVariants.{Absent, Command}
 use Rattle.message.specs.declared.state.OpenMessage.{OpenMessage}
-use Rattle.message.specs.declared.state.Message.{Message}
-use Rattle.message.specs.declared.state.Message.TheVariants.{Idle, Open}
 use Rattle.terminal.specs.declared.state.Core.{Core}
 use Rattle.terminal.specs.declared.state.Held.{Held}
 use Rattle.lines.specs.Lines.{blank, newline}
@@ -69,9 +66,9 @@ of_line : (line : Bool) → AtMost 1 (line_name line)
 of_line true = record { bound = le_refl 1 }
 of_line false = record { bound = le_refl 1 }
 
-of_second : (second : Second) → AtMost 4 (second_text second)
-of_second Absent = record { bound = le_refl 4 }
-of_second (Command command) = of_word command
+of_second : (second : Option ℕ) → AtMost 4 (second_text second)
+of_second None = record { bound = le_refl 4 }
+of_second (Some command) = of_word command
 
 of_stage : (stage : Stage) → AtMost 8 (stage_text stage)
 of_stage Data = record { bound = omega arith }
@@ -103,10 +100,10 @@ of_progress message =
     (named (bytes "second ") blank (of_second message.second)))
     (named (bytes "stage ") newline (of_stage message.stage))
 
-of_message : (message : Message) → AtMost 222 (message_text message)
+of_message : (message : Option OpenMessage) → AtMost 222 (message_text message)
 unfolding message_text
-of_message Idle = record { bound = omega arith }
-of_message (Open message) =
+of_message None = record { bound = omega arith }
+of_message (Some message) =
     both (both (of_opening message) (of_fixed message)) (of_progress message)
 
 of_blocks : (places : List ℕ) (start count : ℕ)

@@ -1,5 +1,6 @@
 -- The laws of `specs/State.antt`: the parts of the state's text in turn, as the code puts them.
 -- Assumes nothing.
+use Rattle.std.proofs.Common.{None, Option, Some}
 use mathlib.Core.Path.{◌≡◌, sym, ◌∙◌}
 use mathlib.Core.Bool.{Bool, true, false}
 use mathlib.Core.List.{List, [], ◌∷◌, ◌++◌}
@@ -17,11 +18,7 @@ use Rattle.message.specs.declared.state.Stage.TheVariants.{
   AwaitingStatus,
   Skipping,
 }
-use Rattle.message.specs.declared.state.Second.{Second}
-use Rattle.message.specs.declared.state.Second.TheVariants.{Absent, Command}
 use Rattle.message.specs.declared.state.OpenMessage.{OpenMessage}
-use Rattle.message.specs.declared.state.Message.{Message}
-use Rattle.message.specs.declared.state.Message.TheVariants.{Idle, Open}
 use Rattle.terminal.specs.declared.state.Core.{Core}
 use Rattle.terminal.specs.declared.state.Held.{Held}
 use Rattle.lines.specs.Digits.{hex_byte, hex_word, decimal}
@@ -63,12 +60,12 @@ module _ {out : List ℕ} {at : ℕ} {after : List ℕ} {next : ℕ} where
       → Fits out at (part "line " (line_name on)) after next
   line_b on is fits = rw is fits
 
-  module _ (second : Second) where
-    pub no_second : second ≡ Absent → Fits out at (bytes "second none ") after next
+  module _ (second : Option ℕ) where
+    pub no_second : second ≡ None → Fits out at (bytes "second none ") after next
         → Fits out at (part "second " (second_text second)) after next
     no_second is fits = rw is fits
 
-    pub second_command : (command : ℕ) → second ≡ Command command
+    pub second_command : (command : ℕ) → second ≡ Some command
         → Fits out at (part "second " (hex_word command)) after next
         → Fits out at (part "second " (second_text second)) after next
     second_command command is fits = rw is fits
@@ -91,7 +88,7 @@ module _ {out : List ℕ} {at : ℕ} {after : List ℕ} {next : ℕ} where
         → Fits out at (line "stage " (stage_text stage)) after next
     stage_skipping is fits = rw is fits
 
-  pub message_idle : (message : Message) → message ≡ Idle
+  pub message_idle : (message : Option OpenMessage) → message ≡ None
       → Fits out at (bytes "open none\n") after next
       → Fits out at (message_text message) after next
   unfolding message_text
@@ -152,8 +149,8 @@ module _ {out out₁ out₂ : List ℕ} {at at₁ at₂ : ℕ} where
   unfolding opening_text
   opening_fits message first second third = fits_then (fits_then first second) third
 
-  pub message_open : {after : List ℕ} {next : ℕ} (message : Message) (held : OpenMessage)
-      → message ≡ Open held
+  pub message_open : {after : List ℕ} {next : ℕ} (message : Option OpenMessage) (held : OpenMessage)
+      → message ≡ Some held
       → Fits out at (opening_text held) out₁ at₁ → Fits out₁ at₁ (fixed_text held) out₂ at₂
       → Fits out₂ at₂ (progress_text held) after next
       → Fits out at (message_text message) after next

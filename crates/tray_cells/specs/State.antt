@@ -1,21 +1,6 @@
 -- The lines of the terminal's state, an item a line; the items of an open message stand on one
 -- line. Definitions only. Assumes nothing.
-use Rattle.std.specs.Prelude.{
-  Bool,
-  cond,
-  List,
-  [],
-  ◌∷◌,
-  ◌++◌,
-  ℕ,
-  zero,
-  suc,
-  ◌+◌,
-  ◌/◌,
-  ◌%◌,
-  eqb,
-  get_or,
-}
+use Rattle.std.specs.Prelude.{Bool, cond, List, [], ◌∷◌, ◌++◌, ℕ, zero, suc, ◌+◌, ◌/◌, ◌%◌, eqb, get_or, None, Option, Some}
 use Rattle.queue.specs.declared.Ring.{Ring}
 use Rattle.queue.specs.Queue.{queue_places}
 use Rattle.message.specs.declared.state.Stage.{Stage}
@@ -25,11 +10,7 @@ use Rattle.message.specs.declared.state.Stage.TheVariants.{
   AwaitingStatus,
   Skipping,
 }
-use Rattle.message.specs.declared.state.Second.{Second}
-use Rattle.message.specs.declared.state.Second.TheVariants.{Absent, Command}
 use Rattle.message.specs.declared.state.OpenMessage.{OpenMessage}
-use Rattle.message.specs.declared.state.Message.{Message}
-use Rattle.message.specs.declared.state.Message.TheVariants.{Idle, Open}
 use Rattle.terminal.specs.declared.state.Core.{Core}
 use Rattle.terminal.specs.declared.state.Held.{Held}
 use Rattle.lines.specs.Digits.{hex_byte, hex_word, decimal}
@@ -45,9 +26,9 @@ abbrev pub line_name : Bool → List ℕ
 line_name line = cond line (bytes "B") (bytes "A")
 
 -- the second command, where there is one
-abbrev pub second_text : Second → List ℕ
-second_text Absent = bytes "none"
-second_text (Command command) = hex_word command
+abbrev pub second_text : Option ℕ → List ℕ
+second_text None = bytes "none"
+second_text (Some command) = hex_word command
 
 -- a time has 32 bits
 abbrev pub time_text : ℕ → List ℕ
@@ -84,9 +65,9 @@ progress_text message =
     ++ line "stage " (stage_text message.stage)
 
 -- all its items, where a message is open
-unfoldable pub message_text : Message → List ℕ
-message_text Idle = bytes "open none\n"
-message_text (Open message) = opening_text message ++ fixed_text message ++ progress_text message
+unfoldable pub message_text : Option OpenMessage → List ℕ
+message_text None = bytes "open none\n"
+message_text (Some message) = opening_text message ++ fixed_text message ++ progress_text message
 
 -- ---- the queue
 

@@ -27,7 +27,7 @@ ghost use Rattle.tray_cells.specs.State.{
   state_text,
 };
 
-use message::state::{Message, OpenMessage, Second, Stage};
+use message::state::{OpenMessage, Stage};
 use queue::Ring;
 use shown::{item, text};
 use terminal::state::{Core, Held};
@@ -56,13 +56,13 @@ fn put_opened(out: &mut [u8], at: usize, opened: u32) -> usize
     text::put_byte(out, third, b' ')
 }
 
-fn put_second(out: &mut [u8], at: usize, second: Second) -> usize
+fn put_second(out: &mut [u8], at: usize, second: Option<u16>) -> usize
     ensures { Fits out.old at (part "second " (second_text second))
         out.new result }
 {
     match second {
-        Second::Absent => text::put_text(out, at, b"second none "),
-        Second::Command(command) => item::put_word(out, at, b"second ", command, b' '),
+        None => text::put_text(out, at, b"second none "),
+        Some(command) => item::put_word(out, at, b"second ", command, b' '),
     }
 }
 
@@ -112,13 +112,13 @@ fn put_progress(out: &mut [u8], at: usize, message: OpenMessage) -> usize
     put_stage(out, third, stage)
 }
 
-fn put_message(out: &mut [u8], at: usize, message: Message) -> usize
+fn put_message(out: &mut [u8], at: usize, message: Option<OpenMessage>) -> usize
     ensures { Fits out.old at (message_text message)
         out.new result }
 {
     match message {
-        Message::Idle => text::put_text(out, at, b"open none\n"),
-        Message::Open(open) => {
+        None => text::put_text(out, at, b"open none\n"),
+        Some(open) => {
             let first = put_opening(out, at, open);
             let second = put_fixed(out, first, open);
             put_progress(out, second, open)

@@ -1,7 +1,7 @@
 -- One broken message costs one block, over recordings: bytes that a program is given, the lines
 -- that it prints, and the queue and the memory that it leaves. What is asked of the terminal, and
 -- which cells are excepted, is in the terminal's `OneBlock`. Definitions only. Assumes nothing.
-use Rattle.std.specs.Prelude.{◌≡◌, Bool, true, List, [], ◌∷◌, ◌++◌, ℕ, ◌+◌, length}
+use Rattle.std.specs.Prelude.{◌≡◌, Bool, true, List, [], ◌∷◌, ◌++◌, ℕ, ◌+◌, length, Option, Some}
 use Rattle.bus.specs.declared.kind.Kind.TheVariants.{ModeStatus, ModeLast}
 use Rattle.bus.specs.declared.word.Word.{Word}
 use Rattle.bus.specs.Kind.{kind_of}
@@ -10,8 +10,6 @@ use Rattle.card.specs.declared.place.Block.{Block}
 use Rattle.card.specs.Memory.{the_block}
 use Rattle.queue.specs.Queue.{empty_queue}
 use Rattle.message.specs.declared.state.OpenMessage.{OpenMessage}
-use Rattle.message.specs.declared.state.Message.{Message}
-use Rattle.message.specs.declared.state.Message.TheVariants.{Open}
 use Rattle.terminal.specs.State.{Card, card, core_at_setup}
 use Rattle.terminal.specs.Event.{Event, word, seen}
 use Rattle.terminal.specs.Machine.{step, run}
@@ -48,14 +46,14 @@ lines_of (told ∷ more) old = line_of told old ++ lines_of more (step told old)
 
 -- every line is the same, but for the message error bit in the S line of a reply to "transmit
 -- status word" or "transmit last command"
-pub data SameLine : Bool → Message → List ℕ → List ℕ → Type 0 where
-  same : {before : Bool} {message : Message} {line : List ℕ} → SameLine before message line line
+pub data SameLine : Bool → Option OpenMessage → List ℕ → List ℕ → Type 0 where
+  same : {before : Bool} {message : Option OpenMessage} {line : List ℕ} → SameLine before message line line
   status_but_error : {message : OpenMessage} (status other : ℕ)
       → kind_of message.command ≡ ModeStatus → without_error status ≡ without_error other
-      → SameLine true (Open message) (status_line status []) (status_line other [])
+      → SameLine true (Some message) (status_line status []) (status_line other [])
   last_but_error : {message : OpenMessage} (status other last : ℕ)
       → kind_of message.command ≡ ModeLast → without_error status ≡ without_error other
-      → SameLine true (Open message)
+      → SameLine true (Some message)
       (status_line status (last ∷ [])) (status_line other (last ∷ []))
 
 -- .. and so for each later field; the exception ends where another command opens a message

@@ -8,13 +8,11 @@
 //     1  a word 2C61: its marks    2  silence: line    3  host write: address, count of words
 //     4  queue read                5  table block      6  flags
 //     7  words to send: block, count
+use crate::notation::Bytes;
 use crate::{given, notation, recordings};
-use actions::{Answered, Done, Terminal};
+use actions::Terminal;
 use card::place::{Block, CARD_BLOCKS};
 use card::sent;
-use check;
-use queue::Ring;
-use terminal::state::{Core, Held};
 
 // What every word of the RAM is before a call.
 const GIVEN: u16 = 0x1234;
@@ -24,144 +22,128 @@ const WRONG: u8 = 255;
 
 // ---- the actions
 
-fn done(answered: Answered) -> Done {
-    let left = answered.terminal;
-    Done {
-        refusal: answered.refusal,
-        terminal: left,
-    }
+enum Action {
+    Setup,
+    Word { marks: u8 },
+    Silence { line: u8 },
+    HostWrite { address: u16, count: u16 },
+    ReadQueue,
+    MoveTable { table: u16 },
+    SetFlags { flags: u16 },
+    WordsToSend { block: Block, count: u16 },
 }
 
-fn write(given: Terminal, ram: &mut [u16], address: u16, count: u16) -> Done {
-    let words: [u16; 65] = [0x5555; 65];
-    let end = (count % 66) as usize;
-    given.host_write(ram, address, &words[0..end])
+// The action of a number, with its arguments.
+fn action_of(number: u16, first: u16, second: u16) -> Action {
+    let [_, number] = number.to_be_bytes();
+    let [_, low] = first.to_be_bytes();
+    match number {
+        0 => Action::Setup,
+        1 => Action::Word { marks: low },
+        2 => Action::Silence { line: low },
+        3 => Action::HostWrite {
+            address: first,
+            count: second,
+        },
+        4 => Action::ReadQueue,
+        5 => Action::MoveTable { table: first },
+        7 => Action::WordsToSend {
+            block: Block(first),
+            count: second,
+        },
+        _ => Action::SetFlags { flags: first },
+    }
 }
 
 fn number_if(right: bool, number: u8) -> u8 {
-    if right {
-        return number;
-    }
-    WRONG
+    if right { number } else { WRONG }
+}
+
+fn host_write(terminal: &mut Terminal, ram: &mut [u16], address: u16, count: u16) -> u8 {
+    let words = [0x5555; 65];
+    let end = usize::from(count % 66);
+    let done = terminal.host_write(ram, address, &words[..end]);
+    *terminal = done.terminal;
+    done.refusal
 }
 
 // A part that is refused is empty; one that is shown has the words that were asked for.
-fn part_refusal(ram: &[u16], block: Block, count: u16) -> u8 {
-    let number = sent::refusal(ram, CARD_BLOCKS, block, count);
+fn words_to_send(ram: &[u16], block: Block, count: u16) -> u8 {
+    let number = sent::refusal(ram, CARD_BLOCKS, block, count).map_or(0, u8::from);
+    let wanted = if number == 0 { count } else { 0 };
     let shown = sent::part(ram, CARD_BLOCKS, block, count).len();
-    let right = ((number == 0) & (shown == count as usize)) | ((number != 0) & (shown == 0));
-    number_if(right, number)
+    number_if(shown == usize::from(wanted), number)
 }
 
 // A read that is refused has no word.
-fn read(given: Terminal) -> Done {
-    let answered = given.read_queue();
-    let left = answered.terminal;
-    let right = (answered.refusal == 0) | (answered.word == 0);
-    Done {
-        refusal: number_if(right, answered.refusal),
-        terminal: left,
-    }
+fn read_queue(terminal: &mut Terminal) -> u8 {
+    let answered = terminal.read_queue();
+    *terminal = answered.terminal;
+    let right = answered.refusal == 0 || answered.word == 0;
+    number_if(right, answered.refusal)
 }
 
-fn setup(given: Terminal) -> Done {
-    let core = given.core;
-    Terminal::setup(core.station, core.table.0, core.flags)
-}
-
-// The actions that take no RAM.
-fn perform_alone(given: Terminal, action: u8, first: u16) -> Done {
+// Performs an action, and answers the number of its refusal.
+fn perform(action: Action, terminal: &mut Terminal, ram: &mut [u16]) -> u8 {
     match action {
-        0 => setup(given),
-        4 => read(given),
-        5 => given.move_table(first),
-        _ => given.set_flags(first),
+        Action::Setup => {
+            let core = terminal.core;
+            let done = Terminal::setup(core.station, core.table.0, core.flags);
+            *terminal = done.terminal;
+            done.refusal
+        }
+        Action::Word { marks } => {
+            let answered = terminal.word(ram, marks, 0x2C61, 9);
+            *terminal = answered.terminal;
+            answered.refusal
+        }
+        Action::Silence { line } => {
+            let answered = terminal.silence(ram, line, 9);
+            *terminal = answered.terminal;
+            answered.refusal
+        }
+        Action::HostWrite { address, count } => host_write(terminal, ram, address, count),
+        Action::ReadQueue => read_queue(terminal),
+        Action::MoveTable { table } => {
+            let done = terminal.move_table(table);
+            *terminal = done.terminal;
+            done.refusal
+        }
+        Action::SetFlags { flags } => {
+            let done = terminal.set_flags(flags);
+            *terminal = done.terminal;
+            done.refusal
+        }
+        Action::WordsToSend { block, count } => words_to_send(ram, block, count),
     }
-}
-
-// An action with its arguments.
-fn perform(given: Terminal, ram: &mut [u16], action: u8, first: u16, second: u16) -> Done {
-    let low = (first % 256) as u8;
-    match action {
-        1 => done(given.word(ram, low, 0x2C61, 9)),
-        2 => done(given.silence(ram, low, 9)),
-        3 => write(given, ram, first, second),
-        7 => Done {
-            refusal: part_refusal(ram, Block(first), second),
-            terminal: given,
-        },
-        _ => perform_alone(given, action, first),
-    }
-}
-
-fn call(row: &[u8], ram: &mut [u16]) -> Done {
-    let given = given::terminal_of(row);
-    let first = notation::word_in(row, 1);
-    perform(
-        given,
-        ram,
-        notation::byte_in(row, 1),
-        first,
-        notation::word_in(row, 2),
-    )
-}
-
-// ---- what is left
-
-// All but the queue's places.
-fn put_terminal(out: &mut [u8], refusal: u8, core: Core, ring: Ring) -> usize {
-    let held = Held {
-        core: core,
-        ring: ring,
-    };
-    let station = notation::put_byte(out, 0, refusal);
-    let flags = notation::put_pair(out, station, core.station, core.table.0);
-    let state = notation::put_pair(out, flags, core.flags, ring.start);
-    recordings::put_state(out, state, held)
-}
-
-fn put_done(out: &mut [u8], made: Done, place: u16) -> usize {
-    let left = made.terminal;
-    let core = left.core;
-    let queue = left.queue;
-    let ring = queue.ring;
-    let places = put_terminal(out, made.refusal, core, ring);
-    notation::put_others(out, places, &queue.places, place)
-}
-
-// Whether a call made this of the terminal, and left this of the RAM.
-fn is_left(made: Done, ram: &[u16], place: u16, wanted: &[u8]) -> bool {
-    let mut bytes: [u8; 4096] = [0; 4096];
-    let cells = put_done(&mut bytes, made, place);
-    let end = notation::put_others(&mut bytes, cells, ram, GIVEN);
-    check::same(notation::part(&bytes, 0, end), wanted)
 }
 
 // ---- the cases
 
-// Whether a call leaves what it should, over as much of a RAM as the row says.
-fn leaves(row: &[u8], wanted: &[u8]) -> bool {
-    let mut cells: [u16; 16385] = [GIVEN; 16385];
-    let ram: &mut [u16] = &mut cells;
-    let size = notation::word_in(row, 3) as usize;
-    if ram.len() < size {
-        return false;
-    }
-    let part = &mut ram[0..size];
-    let made = call(row, part);
-    is_left(made, part, notation::word_in(row, 9), wanted)
+// What a call leaves, over as much of a RAM as the row says.
+fn put_call(out: &mut Bytes, given: &[u8]) {
+    let row = notation::row_of(given);
+    let [action, first, second, size, _, _, _, _, _, place, ..] = row;
+    let mut cells = [GIVEN; 16385];
+    let Some(ram) = cells.get_mut(..usize::from(size)) else {
+        return;
+    };
+    let mut terminal = given::terminal_of(row);
+    let refusal = perform(action_of(action, first, second), &mut terminal, ram);
+    let Terminal { core, queue } = terminal;
+    notation::put_bytes(out, &[refusal]);
+    notation::put_words(
+        out,
+        &[core.station, core.table.0, core.flags, queue.ring.start],
+    );
+    recordings::put_state(out, core, queue.ring);
+    notation::put_others(out, &queue.places, place);
+    notation::put_others(out, ram, GIVEN);
 }
 
 // Whether a case comes out as it should, behind what its group begins with.
-pub(crate) fn holds(before: &[u8], text: &[u8]) -> bool {
-    let mut bytes: [u8; 4096] = [0; 4096];
-    let sign = notation::place_of(text, 0, b'=');
-    let end = notation::place_of(text, sign, b'#');
-    let start = notation::read_hex(before, &mut bytes, 0);
-    let row = notation::read_hex(notation::part(text, 0, sign), &mut bytes, start);
-    let left = notation::read_hex(notation::part(text, sign, end), &mut bytes, row);
-    leaves(
-        notation::part(&bytes, 0, row),
-        notation::part(&bytes, row, left),
-    )
+pub(crate) fn holds(before: &[u8], case: &[u8]) -> bool {
+    let (row, rest) = notation::cut(case, b'=');
+    let (state, _remark) = notation::cut(rest, b'#');
+    notation::leaves(before, row, b"", state, put_call)
 }

@@ -3,80 +3,64 @@
 // block and words taken, the second command (0 for none), the stage (0 for nothing open). Words
 // that the row has not are 0. Status and last command hold what no message makes, and all marks are
 // set.
-use crate::notation;
+use crate::notation::Row;
 use actions::Terminal;
 use card::place::Block;
-use message::state::{Message, OpenMessage, Second, Stage};
+use message::state::{OpenMessage, Stage};
 use queue::{Queue, Ring};
 use terminal::state::{Core, Shut};
 
-fn second_of(command: u16) -> Second {
-    if command == 0 {
-        return Second::Absent;
+fn second_of(command: u16) -> Option<u16> {
+    match command {
+        0 => None,
+        _ => Some(command),
     }
-    Second::Command(command)
 }
 
-fn stage_of(number: u16) -> Stage {
+fn stage_of(number: u16) -> Option<Stage> {
     match number {
-        1 => Stage::Data,
-        2 => Stage::SecondCommand,
-        3 => Stage::AwaitingStatus,
-        _ => Stage::Skipping,
+        0 => None,
+        1 => Some(Stage::Data),
+        2 => Some(Stage::SecondCommand),
+        3 => Some(Stage::AwaitingStatus),
+        _ => Some(Stage::Skipping),
     }
 }
 
-fn open_message(row: &[u8]) -> OpenMessage {
-    OpenMessage {
-        command: notation::word_in(row, 10),
+pub(crate) fn terminal_of(row: Row) -> Terminal {
+    let [_, _, _, _, station, table, flags, start, count, place, ..] = row;
+    let [.., command, block, opened_table, taken, second, stage] = row;
+    let message = stage_of(stage).map(|stage| OpenMessage {
+        command,
         line: false,
-        block: Block(notation::word_in(row, 11)),
-        table: Block(notation::word_in(row, 12)),
+        block: Block(block),
+        table: Block(opened_table),
         moved: false,
         busy: false,
         queued: false,
         opened: 0,
-        taken: notation::word_in(row, 13),
-        second: second_of(notation::word_in(row, 14)),
-        stage: stage_of(notation::word_in(row, 15)),
-    }
-}
-
-fn message_of(row: &[u8]) -> Message {
-    if notation::word_in(row, 15) == 0 {
-        return Message::Idle;
-    }
-    Message::Open(open_message(row))
-}
-
-fn core_of(row: &[u8]) -> Core {
-    Core {
-        station: notation::word_in(row, 4),
-        table: Block(notation::word_in(row, 5)),
-        flags: notation::word_in(row, 6),
-        status: 0xFFFF,
-        last: 0xFFFF,
-        shut: Shut { a: true, b: true },
-        inhibit: true,
-        message: message_of(row),
-    }
-}
-
-fn queue_of(row: &[u8]) -> Queue {
-    let place = notation::word_in(row, 9);
-    Queue {
-        places: [place; 256],
-        ring: Ring {
-            start: notation::word_in(row, 7),
-            count: notation::word_in(row, 8),
-            overflow: true,
-        },
-    }
-}
-
-pub(crate) fn terminal_of(row: &[u8]) -> Terminal {
+        taken,
+        second: second_of(second),
+        stage,
+    });
     Terminal {
-        core: core_of(row),
-        queue: queue_of(row),
+        core: Core {
+            station,
+            table: Block(table),
+            flags,
+            status: 0xFFFF,
+            last: 0xFFFF,
+            shut: Shut { a: true, b: true },
+            inhibit: true,
+            message,
+        },
+        queue: Queue {
+            places: [place; 256],
+            ring: Ring {
+                start,
+                count,
+                overflow: true,
+            },
+        },
     }
 }

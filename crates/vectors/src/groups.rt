@@ -1,68 +1,59 @@
 // The walk of the cases: group by group, and case by case within a group.
 use crate::report::Score;
-use crate::{calls, notation, recordings, report};
+use crate::{calls, notation, recordings};
 use std::io;
 use std::io::Write;
 
+// What the cases of a group are.
+#[derive(Clone, Copy)]
+enum Kind {
+    Recordings,
+    Calls,
+}
+
+impl TryFrom<u8> for Kind {
+    type Error = ();
+
+    fn try_from(letter: u8) -> Result<Kind, ()> {
+        match letter {
+            b'r' | b'R' => Ok(Kind::Recordings),
+            b'c' | b'C' => Ok(Kind::Calls),
+            _ => Err(()),
+        }
+    }
+}
+
 // Whether a case of a group comes out right. One of a kind in capitals has something wrong in it,
 // and must differ. A kind that is not known has no case that is right.
-fn is_right(group: &[u8], before: &[u8], text: &[u8]) -> bool {
-    match notation::byte_in(group, 0) {
-        b'r' => recordings::holds(before, text),
-        b'R' => !recordings::holds(before, text),
-        b'c' => calls::holds(before, text),
-        b'C' => !calls::holds(before, text),
-        _ => false,
-    }
+fn is_right(letter: u8, before: &[u8], case: &[u8]) -> bool {
+    let holds = match Kind::try_from(letter) {
+        Ok(Kind::Recordings) => recordings::holds(before, case),
+        Ok(Kind::Calls) => calls::holds(before, case),
+        Err(()) => return false,
+    };
+    holds != letter.is_ascii_uppercase()
 }
 
-// The cases of a group, each behind what comes before them.
-fn run_cases<O: Write>(
-    output: &mut O,
-    name: &[u8],
-    text: &[u8],
-    first: usize,
-    before: &[u8],
-) -> io::Result<Score> {
-    let mut score = Score::none();
-    let mut at = first;
-    let mut left = text.len();
-    while left > 0 {
-        if text.len() <= at {
-            break;
-        }
-        let end = notation::after(text, at, b'*');
-        let right = is_right(text, before, notation::part(text, at, end));
-        score = report::judge(output, score, name, right)?;
-        at = end;
-        left -= 1;
+// The group of a text that begins with its kind, a blank and its name. Each case is behind what the
+// group has before the first.
+fn run_group<O: Write>(output: &mut O, group: &[u8]) -> io::Result<Score> {
+    let letter = group.first().copied().unwrap_or(0);
+    let (name, _) = notation::cut(group.get(2..).unwrap_or(&[]), b'\n');
+    let mut parts = group.split_inclusive(|&byte| byte == b'*');
+    let (_, before) = notation::cut(parts.next().unwrap_or(&[]), b'^');
+    let mut score = Score::default();
+    for case in parts {
+        score.judge(output, name, is_right(letter, before, case))?;
     }
-    Ok(score)
-}
-
-// The group of a text that begins with its kind, a blank and its name.
-fn run_group<O: Write>(output: &mut O, text: &[u8]) -> io::Result<Score> {
-    let name = notation::part(text, 2, notation::place_of(text, 2, b'\n'));
-    let first = notation::after(text, 0, b'*');
-    let before = notation::part(text, notation::after(text, 0, b'^'), first);
-    let score = run_cases(output, name, text, first, before)?;
-    report::print_score(output, name, score)?;
+    score.print(output, name)?;
     Ok(score)
 }
 
 // Every group of a text.
 pub(crate) fn run<O: Write>(output: &mut O, text: &[u8]) -> io::Result<Score> {
-    let mut score = Score::none();
-    let mut at = notation::after(text, 0, b'@');
-    let mut left = text.len();
-    while left > 0 {
-        if text.len() <= at {
-            break;
-        }
-        let end = notation::after(text, at, b'@');
-        score = score.plus(run_group(output, notation::part(text, at, end))?);
-        at = end;
-        left -= 1;
+    let mut score = Score::default();
+    for group in text.split_inclusive(|&byte| byte == b'@').skip(1) {
+        score += run_group(output, group)?;
     }
     Ok(score)
 }

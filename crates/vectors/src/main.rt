@@ -15,25 +15,14 @@ mod report;
 use std::io;
 use std::io::Read;
 
-// Reads until the text is full or the input has ended, and answers how many bytes came.
-fn read_full<I: Read>(input: &mut I, text: &mut [u8]) -> io::Result<usize> {
-    let mut size = 0;
-    while size < text.len() {
-        let count = input.read(&mut text[size..])?;
-        if count == 0 {
-            break;
-        }
-        size += count;
-    }
-    Ok(size)
-}
+// How many bytes of a text are read: one of more is cut, and the counts tell.
+const TEXT_BYTES: u64 = 524288;
 
-// A text of more bytes is cut, and the counts tell.
 fn main(rt: HostRuntime) -> io::Result<()> {
-    let mut bytes: [u8; 524288] = [0; 524288];
-    let text: &mut [u8] = &mut bytes;
-    let size = read_full(&mut rt.stdin(), text)?;
+    // the one thing that is on the heap
+    let mut text = Vec::new(rt.alloc());
+    rt.stdin().take(TEXT_BYTES).read_to_end(&mut text)?;
     let mut output = rt.stdout();
-    let all = groups::run(&mut output, notation::part(text, 0, size))?;
-    report::print_score(&mut output, b"vectors", all)
+    let all = groups::run(&mut output, text.as_slice())?;
+    all.print(&mut output, b"vectors")
 }

@@ -24,147 +24,98 @@
 //
 // `calls` says what a case that is a call has.
 
-// A part of the text, empty where its ends are not in order.
-pub(crate) fn part(text: &[u8], start: usize, end: usize) -> &[u8] {
-    if end < start {
-        return &text[0..0];
+use arrayvec::ArrayVec;
+use std::{array, iter};
+
+// The bytes of a case, at the most.
+pub(crate) const CASE_BYTES: usize = 65536;
+
+// What a case gives, or what it leaves; what has no room is cut.
+pub(crate) type Bytes = ArrayVec<u8, CASE_BYTES>;
+
+// The words of a call.
+pub(crate) type Row = [u16; 16];
+
+// A text before and behind the first such byte: all of it and nothing, where there is none.
+pub(crate) fn cut(text: &[u8], byte: u8) -> (&[u8], &[u8]) {
+    match text.iter().position(|&other| other == byte) {
+        Some(at) => (&text[..at], &text[at + 1..]),
+        None => (text, &[]),
     }
-    if text.len() < end {
-        return &text[0..0];
-    }
-    &text[start..end]
 }
 
-// The place of the first such byte from a place on, or the text's end.
-pub(crate) fn place_of(text: &[u8], from: usize, byte: u8) -> usize {
-    let mut at = from;
-    while at < text.len() {
-        if text[at] == byte {
-            return at;
+// ---- what is left
+
+pub(crate) fn put_bytes(out: &mut Bytes, bytes: &[u8]) {
+    let _ = out.try_extend_from_slice(bytes);
+}
+
+// Puts words, high byte first.
+pub(crate) fn put_words(out: &mut Bytes, words: &[u16]) {
+    for word in words {
+        put_bytes(out, &word.to_be_bytes());
+    }
+}
+
+// Every word that is not the given one, behind its place.
+pub(crate) fn put_others(out: &mut Bytes, words: &[u16], given: u16) {
+    for (place, &word) in (0..=u16::MAX).zip(words) {
+        if word != given {
+            put_words(out, &[place, word]);
         }
-        at += 1;
     }
-    text.len()
-}
-
-// The place behind it, or the text's end.
-pub(crate) fn after(text: &[u8], from: usize, byte: u8) -> usize {
-    let at = place_of(text, from, byte);
-    if at < text.len() {
-        return at + 1;
-    }
-    at
-}
-
-// Puts a byte at a place, if there is room, and answers the next place.
-pub(crate) fn put_byte(out: &mut [u8], at: usize, byte: u8) -> usize {
-    if at < out.len() {
-        out[at] = byte;
-        return at + 1;
-    }
-    at
-}
-
-// Puts a word, high byte first.
-fn put_word(out: &mut [u8], at: usize, word: u16) -> usize {
-    let next = put_byte(out, at, (word / 256 % 256) as u8);
-    put_byte(out, next, (word % 256) as u8)
-}
-
-pub(crate) fn put_pair(out: &mut [u8], at: usize, first: u16, second: u16) -> usize {
-    let next = put_word(out, at, first);
-    put_word(out, next, second)
-}
-
-// Puts a place and its word, if that is not the given one.
-fn put_other(out: &mut [u8], at: usize, place: usize, word: u16, given: u16) -> usize {
-    if word == given {
-        return at;
-    }
-    put_pair(out, at, (place % 65536) as u16, word)
-}
-
-// Every word that is not the given one.
-pub(crate) fn put_others(out: &mut [u8], at: usize, words: &[u16], given: u16) -> usize {
-    let mut next = at;
-    let mut place: usize = 0;
-    while place < words.len() {
-        next = put_other(out, next, place, words[place], given);
-        place += 1;
-    }
-    next
 }
 
 // ---- hex
 
-// A digit's number, 16 for a byte that is none.
-fn digit(byte: u8) -> u8 {
-    if byte < 48 {
-        return 16;
-    }
-    if byte < 58 {
-        return byte - 48;
-    }
-    if byte < 65 {
-        return 16;
-    }
-    if byte < 71 {
-        return byte - 55;
-    }
-    16
-}
-
-// How far a reading has come: the bytes that were put, and the high digit of the next, 16 for none.
-#[derive(Clone, Copy)]
-struct Pairing {
-    count: usize,
-    high: u8,
-}
-
-fn pair(out: &mut [u8], old: Pairing, low: u8) -> Pairing {
-    if low == 16 {
-        return old;
-    }
-    if old.high == 16 {
-        return Pairing {
-            count: old.count,
-            high: low,
-        };
-    }
-    let byte = (old.high % 16) * 16 + low % 16;
-    Pairing {
-        count: put_byte(out, old.count, byte),
-        high: 16,
+// A digit's number.
+fn digit(byte: u8) -> Option<u8> {
+    match byte {
+        b'0'..=b'9' => Some(byte - b'0'),
+        b'A'..=b'F' => Some(byte - b'A' + 10),
+        _ => None,
     }
 }
 
-// Puts the bytes that a text's hex digits spell, two by two, from a place on; every other byte is
-// for the eye. Answers the next place.
-pub(crate) fn read_hex(text: &[u8], out: &mut [u8], from: usize) -> usize {
-    let mut pairing = Pairing {
-        count: from,
-        high: 16,
-    };
-    let mut at: usize = 0;
-    while at < text.len() {
-        pairing = pair(out, pairing, digit(text[at]));
-        at += 1;
+// Puts the bytes that a text's hex digits spell, two by two; every other byte is for the eye.
+pub(crate) fn put_hex(out: &mut Bytes, text: &[u8]) {
+    let mut high: Option<u8> = None;
+    for low in text.iter().filter_map(|&byte| digit(byte)) {
+        match high.take() {
+            None => high = Some(low),
+            Some(high) => put_bytes(out, &[high << 4 | low]),
+        }
     }
-    pairing.count
 }
 
 // ---- rows
 
-// A column of a row of bytes, 0 where the row has no such column.
-pub(crate) fn byte_in(row: &[u8], column: usize) -> u8 {
-    if column < row.len() {
-        return row[column];
-    }
-    0
+// The words of a call's bytes, high byte first, 0 where it has no such byte.
+pub(crate) fn row_of(bytes: &[u8]) -> Row {
+    let mut bytes = bytes.iter().copied().chain(iter::repeat(0));
+    array::from_fn(|_| u16::from_be_bytes([bytes.next().unwrap_or(0), bytes.next().unwrap_or(0)]))
 }
 
-// A column of a row of words, high byte first.
-pub(crate) fn word_in(row: &[u8], column: usize) -> u16 {
-    let at = column % 128 * 2;
-    (byte_in(row, at) as u16) * 256 + (byte_in(row, at + 1) as u16)
+// ---- a case
+
+// Whether a case leaves what it should. Given are the bytes that its text spells, behind those that
+// its group begins with; it must leave the lines and then the bytes that the state spells. One that
+// cannot be run leaves nothing.
+pub(crate) fn leaves<F: Fn(&mut Bytes, &[u8])>(
+    before: &[u8],
+    text: &[u8],
+    lines: &[u8],
+    state: &[u8],
+    put_left: F,
+) -> bool
+    requires { F.IsAlwaysCallable put_left }
+{
+    let mut bytes = Bytes::new();
+    put_hex(&mut bytes, before);
+    put_hex(&mut bytes, text);
+    let mut left = Bytes::new();
+    put_left(&mut left, bytes.as_slice());
+    let given = bytes.len();
+    put_hex(&mut bytes, state);
+    !left.is_empty() && left.as_slice().strip_prefix(lines) == bytes.as_slice().get(given..)
 }

@@ -1,26 +1,20 @@
 // Runs a case that is a recording: the printed lines, the state and the whole of the card are
 // compared.
 use crate::notation;
-use check;
-use message::state::{Message, Stage};
+use crate::notation::{Bytes, CASE_BYTES};
+use message::state::Stage;
 use queue::Ring;
-use terminal::state::{Core, Held};
+use terminal::state::Core;
 use tray;
 use tray::Tray;
 
 // ---- what a run leaves, in the bytes of the notation
 
-fn weigh(mark: bool, weight: u8) -> u8 {
-    if mark {
-        return weight;
-    }
-    0
-}
-
 fn marks_of(core: Core, ring: Ring) -> u8 {
-    let shut = core.shut;
-    let lines = weigh(shut.a, 1) | weigh(shut.b, 2);
-    lines | weigh(core.inhibit, 4) | weigh(ring.overflow, 8)
+    u8::from(core.shut.a)
+        | u8::from(core.shut.b) << 1
+        | u8::from(core.inhibit) << 2
+        | u8::from(ring.overflow) << 3
 }
 
 fn number_of(stage: Stage) -> u8 {
@@ -32,68 +26,43 @@ fn number_of(stage: Stage) -> u8 {
     }
 }
 
-fn put_message(out: &mut [u8], at: usize, message: Message) -> usize {
-    match message {
-        Message::Idle => at,
-        Message::Open(open) => {
-            let stage = open.stage;
-            let next = notation::put_pair(out, at, open.command, open.block.0);
-            notation::put_byte(out, next, number_of(stage) | weigh(open.moved, 128))
-        }
+pub(crate) fn put_state(out: &mut Bytes, core: Core, ring: Ring) {
+    notation::put_words(out, &[core.status, core.last]);
+    let [_, waiting] = ring.count.to_be_bytes();
+    notation::put_bytes(out, &[marks_of(core, ring), waiting]);
+    if let Some(open) = core.message {
+        notation::put_words(out, &[open.command, open.block.0]);
+        let moved = u8::from(open.moved) << 7;
+        notation::put_bytes(out, &[number_of(open.stage) | moved]);
     }
-}
-
-pub(crate) fn put_state(out: &mut [u8], at: usize, held: Held) -> usize {
-    let core = held.core;
-    let ring = held.ring;
-    let message = core.message;
-    let words = notation::put_pair(out, at, core.status, core.last);
-    let marks = notation::put_byte(out, words, marks_of(core, ring));
-    let waiting = notation::put_byte(out, marks, (ring.count % 256) as u8);
-    put_message(out, waiting, message)
 }
 
 // ---- a case
 
-// Runs a recording over the lent memory. Puts its lines and, behind them, the state that it leaves.
-fn run(recording: &[u8], places: &mut [u16; 256], ram: &mut [u16], out: &mut [u8]) -> usize {
-    let passed = tray::run_window(Tray::at_start(), places, ram, recording, out, true);
-    let tray = passed.tray;
-    let held = tray.held;
-    put_state(out, passed.put, held)
-}
-
-// Runs a recording on a new card. Puts the cells too.
-fn run_recording(recording: &[u8], out: &mut [u8]) -> usize {
-    let mut places: [u16; 256] = [0; 256];
-    let mut cells: [u16; 16384] = [0; 16384];
-    let ram: &mut [u16] = &mut cells;
-    let next = run(recording, &mut places, ram, out);
-    notation::put_others(out, next, ram, 0)
-}
-
-// Whether a recording prints these lines, and leaves this.
-fn leaves(recording: &[u8], lines: &[u8], wanted: &[u8]) -> bool {
-    let mut bytes: [u8; 65536] = [0; 65536];
-    let size = run_recording(recording, &mut bytes);
-    let end = lines.len();
-    check::same(notation::part(&bytes, 0, end), lines)
-        & check::same(notation::part(&bytes, end, size), wanted)
+// What a recording prints, and leaves on a new card.
+fn put_run(out: &mut Bytes, recording: &[u8]) {
+    let mut places = [0; 256];
+    let mut ram = [0; 16384];
+    let mut lines = [0; CASE_BYTES];
+    let passed = tray::run_window(
+        Tray::at_start(),
+        &mut places,
+        &mut ram,
+        recording,
+        &mut lines,
+        true,
+    );
+    let held = passed.tray.held;
+    notation::put_bytes(out, lines.get(..passed.put).unwrap_or(&[]));
+    put_state(out, held.core, held.ring);
+    notation::put_others(out, &ram, 0);
 }
 
 // Whether a case comes out as it should, behind what its group begins with.
-pub(crate) fn holds(before: &[u8], text: &[u8]) -> bool {
-    let mut bytes: [u8; 65536] = [0; 65536];
-    let title = notation::after(text, 0, b'\n');
-    let sign = notation::place_of(text, title, b'>');
-    let lines = notation::after(text, sign, b'\n');
-    let state = notation::place_of(text, lines, b'=');
-    let start = notation::read_hex(before, &mut bytes, 0);
-    let end = notation::read_hex(notation::part(text, title, sign), &mut bytes, start);
-    let left = notation::read_hex(notation::part(text, state, text.len()), &mut bytes, end);
-    leaves(
-        notation::part(&bytes, 0, end),
-        notation::part(text, lines, state),
-        notation::part(&bytes, end, left),
-    )
+pub(crate) fn holds(before: &[u8], case: &[u8]) -> bool {
+    let (_title, rest) = notation::cut(case, b'\n');
+    let (text, rest) = notation::cut(rest, b'>');
+    let (_, rest) = notation::cut(rest, b'\n');
+    let (lines, state) = notation::cut(rest, b'=');
+    notation::leaves(before, text, lines, state, put_run)
 }

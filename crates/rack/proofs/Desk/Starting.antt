@@ -10,7 +10,6 @@ use Rattle.std.proofs.Common.{Option, Some, None}
 use Rattle.rules.proofs.Clash.{clash}
 use Rattle.card.specs.Memory.{block_cells, the_cell, word_address, cell_at}
 use Rattle.formats.specs.declared.code.Coded.{Coded}
-use Rattle.formats.specs.declared.code.Coded.TheVariants.{Format, Lacking}
 use Rattle.formats.specs.Code.{coded_by}
 use Rattle.exchange.specs.declared.order.Order.{Order}
 use Rattle.controller.specs.declared.state.OpenMessage.{OpenMessage}
@@ -62,18 +61,18 @@ module _ (order : Order) (old : Desk) where
   nothing_given : (refusal : ℕ) → started_as refusal None old ≡ answered → ⊥
   nothing_given refusal same = clash (ap (λ (any : Started). gives any.given) same)
 
-  by_code : (coded : Coded) → length old.ram ≡ desk_words → starting_by coded old ≡ answered
+  by_code : (coded : Option Coded) → length old.ram ≡ desk_words → starting_by coded old ≡ answered
       → Starts order old
   unfolding with_order
-  by_code (Format row broadcast) whole same =
-      let is : order_in row broadcast old ≡ order =
+  by_code (Some coded) whole same =
+      let is : order_in coded.row coded.broadcast old ≡ order =
       ap (λ (any : Started). order_of order any.desk.state.message) same in
       record {
         whole = whole;
         first = sym (ap (λ (any : Order). any.first) is);
         second = sym (ap (λ (any : Order). any.second) is);
       }
-  by_code Lacking whole same = absurd (nothing_given 14 same)
+  by_code None whole same = absurd (nothing_given 14 same)
 
   by_turn : (may : Bool) → length old.ram ≡ desk_words
       → cond may (starting_by (coded_by (code_in old.state.control)) old) (started_as 0 None old)

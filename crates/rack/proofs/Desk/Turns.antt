@@ -1,6 +1,7 @@
 -- The turns of the controller in a message without a fault: behind the words given a status is due
 -- or the message is over; an answer is stored behind them; it ends with code 0. For every row.
 -- Assumes nothing.
+use Rattle.std.proofs.Common.{None}
 use mathlib.Core.Path.{◌≡◌, refl, ap, ◌∙◌}
 use mathlib.Core.Bool.{Bool, true, false, cond, ◌||◌}
 use mathlib.Core.List.{List, [], ◌∷◌}
@@ -13,7 +14,6 @@ use Rattle.rules.proofs.Cases.{beq_same}
 use Rattle.bus.specs.Command.{address_of}
 use Rattle.card.specs.declared.place.Block.{Block}
 use Rattle.card.specs.Memory.{the_cell, with_cell, with_cells}
-use Rattle.message.specs.declared.state.Second.TheVariants.{Absent}
 use Rattle.formats.specs.Row.{status_cell, last_cell}
 use Rattle.exchange.specs.declared.order.Order.{Order}
 use Rattle.exchange.specs.declared.state.Stage.TheVariants.{Awaiting, Reply, AwaitingLast, Ended}
@@ -104,7 +104,7 @@ module _ (start : Desk) (order : Order) (stamps : Stamps) (speaker status : ℕ)
   -- of the only answer, or of the first one of two
   pub answer_turn : (words : List ℕ)
       → address_of status ≡ awaited order → length words ≡ (format_for order).reply
-      → desk_turn line stamps (Said speaker (segment status Absent words))
+      → desk_turn line stamps (Said speaker (segment status None words))
       (back_at start order (exchange_of Awaiting 0 mark) ram)
       ≡ cond (format_for order).last
       (back_at start order (exchange_of AwaitingLast (length words) marked)
@@ -120,7 +120,7 @@ module _ (start : Desk) (order : Order) (stamps : Stamps) (speaker status : ℕ)
 
   -- of the second answer of two
   pub last_turn : (taken : ℕ) → address_of status ≡ awaited_last order
-      → desk_turn line stamps (Said speaker (segment status Absent []))
+      → desk_turn line stamps (Said speaker (segment status None []))
       (back_at start order (exchange_of AwaitingLast taken mark) ram)
       ≡ (ended 0 marked (back_at start order (exchange_of Ended taken marked)
       (with_cell ram block (the_cell (last_cell (format_for order))) status))).desk

@@ -1,5 +1,6 @@
 -- The words of an answer at the controller: a status stands behind the words given, its data words
 -- stand behind it, `answer_stored`, and a last status behind these. For every row. Assumes nothing.
+use Rattle.std.proofs.Common.{None}
 use mathlib.Core.Path.{◌≡◌, ap, ◌∙◌}
 use mathlib.Core.Bool.{Bool, false, ◌||◌}
 use mathlib.Core.List.{List, ◌∷◌}
@@ -12,7 +13,6 @@ use Rattle.rules.proofs.Cases.{beq_same}
 use Rattle.bus.specs.Command.{address_of}
 use Rattle.card.specs.declared.place.Block.{Block}
 use Rattle.card.specs.Memory.{the_cell, with_cell, with_cells}
-use Rattle.message.specs.declared.state.Second.TheVariants.{Absent}
 use Rattle.formats.specs.Row.{status_cell, reply_cell, last_cell}
 use Rattle.exchange.specs.declared.order.Order.{Order}
 use Rattle.exchange.specs.declared.state.Stage.TheVariants.{Awaiting, Reply, AwaitingLast, Ended}
@@ -87,7 +87,7 @@ module _ (start : Desk) (order : Order) where
   -- the whole answer stands behind the words given
   pub answer_stored : (status : ℕ) (words : List ℕ) (time : ℕ → ℕ) (mark : Bool) (ram : List ℕ)
       → address_of status ≡ awaited order → length words ≡ (format_for order).reply
-      → words_step (words_on line time (segment status Absent words))
+      → words_step (words_on line time (segment status None words))
       (at (exchange_of Awaiting 0 mark) ram)
       ≡ at (exchange_of Reply (length words) (mark || is_marked status))
       (with_cells ram block (status_cell (format_for order)) (status ∷ words))

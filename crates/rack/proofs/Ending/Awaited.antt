@@ -1,5 +1,7 @@
 -- A terminal that awaits the status of another takes it, or closes: either way its message is then
 -- in its data or none is open. Assumes nothing.
+use Rattle.std.proofs.Common.{None, Some}
+use Rattle.std.specs.Option.{unwrap_or}
 use mathlib.Core.Path.{◌≡◌, refl, sym, subst}
 use mathlib.Core.Bool.{Bool, true, false, beq}
 use mathlib.Core.List.{List}
@@ -10,10 +12,7 @@ use Rattle.rules.proofs.Choices.{by_test}
 use Rattle.bus.specs.declared.word.Word.{Word}
 use Rattle.bus.specs.Command.{address_of}
 use Rattle.message.specs.declared.state.Stage.{Stage}
-use Rattle.message.specs.declared.state.Second.TheVariants.{Absent}
 use Rattle.message.specs.declared.state.OpenMessage.{OpenMessage}
-use Rattle.message.specs.declared.state.Message.TheVariants.{Open}
-use Rattle.message.specs.Message.{second_of}
 use Rattle.message.specs.Asked.{asks}
 use Rattle.message.specs.Words.{own_command, in_awaiting_status, word_in_stage, on_word}
 use Rattle.terminal.specs.State.{Card}
@@ -39,13 +38,13 @@ module _ (line : Bool) (first status : ℕ) (message : OpenMessage)
       (subst (λ (stage : Stage). Needs line (OfCommand first) message (heard time)
       (word_in_stage stage station (asks message) message (heard time))) (sym waiting.awaits)
       (by_test (Needs line (OfCommand first) message (heard time))
-      (eqb (address_of status) (address_of (second_of message.second)))
+      (eqb (address_of status) (address_of (unwrap_or message.second 0)))
       (λ _. record { is = waiting.is; plain = tt }) (λ _. tt)))
 
   pub reply_met : (words : List ℕ) (time : ℕ → ℕ) (now : Card)
-      → now.core.message ≡ Open message → message.line ≡ line → is_own status now ≡ false
+      → now.core.message ≡ Some message → message.line ≡ line → is_own status now ≡ false
       → Met line (OfCommand first)
-      (hears (words_on line time (segment status Absent words)) now)
+      (hears (words_on line time (segment status None words)) now)
   unfolding hears own_command
   reply_met words time now is on_line strange =
       data_met line (OfCommand first) words time 1 _

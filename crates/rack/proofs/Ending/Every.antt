@@ -1,5 +1,6 @@
 -- Every message that starts ends within three turns, whatever its commands ask: by one command or
 -- two, and whether the first of two is legal. Assumes nothing.
+use Rattle.std.proofs.Common.{None, Option, Some}
 use mathlib.Core.Path.{◌≡◌, refl, ap, sym, subst, ◌∙◌}
 use mathlib.Core.Logic.{◌≢◌}
 use mathlib.Core.Bool.{Bool, true, false}
@@ -9,8 +10,6 @@ use native.Mathlib.Omega.{arith}
 use Rattle.rules.proofs.Clash.{clash}
 use Rattle.rules.proofs.Cases.{not_first}
 use Rattle.bus.specs.Command.{address_of}
-use Rattle.message.specs.declared.state.Second.{Second}
-use Rattle.message.specs.declared.state.Second.TheVariants.{Absent, Command}
 use Rattle.message.specs.Asked.{asked_of}
 use Rattle.formats.specs.declared.row.Format.{Format}
 use Rattle.formats.specs.declared.row.Row.{Row}
@@ -63,32 +62,32 @@ module _ (more : ℕ) (order : Order) (clock : ℕ → Stamps) (old : Rack)
   abbrev started : Rack
   started = rack (open_desk order old.desk) old.terminals
 
-  abbrev EndsBy : Second → Type 0
+  abbrev EndsBy : Option ℕ → Type 0
   EndsBy second =
       Comes (suc (suc (suc more))) line clock (Given (segment order.first second words) ∷ [])
       started
 
   -- one command
-  alone_ends : EndsBy Absent
+  alone_ends : EndsBy None
   alone_ends =
       let known = each_so (settled_alone line stamps order.first words) idle in
-      ends_settled more line clock (segment order.first Absent words) started
+      ends_settled more line clock (segment order.first None words) started
       (each_so (λ terminal is. is.settled) known)
       (omega (
         arith,
-        one_replies line stamps (Given (segment order.first Absent words))
+        one_replies line stamps (Given (segment order.first None words))
             (address_of order.first) different (each_so (λ terminal is. is.elsewhere) known),
       ))
       (begins_late order old.desk)
 
   -- two commands, the first illegal
-  illegal_ends : (second : ℕ) → (asked_of order.first).illegal ≡ true → EndsBy (Command second)
+  illegal_ends : (second : ℕ) → (asked_of order.first).illegal ≡ true → EndsBy (Some second)
   illegal_ends second illegal =
-      let said : Spoken = Given (segment order.first (Command second) words) in
+      let said : Spoken = Given (segment order.first (Some second) words) in
       let known =
       each_so (λ terminal is.
       settled_both line stamps order.first words terminal second illegal is) idle in
-      ends_settled more line clock (segment order.first (Command second) words) started
+      ends_settled more line clock (segment order.first (Some second) words) started
       (each_so (λ terminal is. is.settled) known)
       (two_reply line stamps said (address_of order.first) (address_of second) different
       (each_so (λ terminal is. is.beside) known))
@@ -98,7 +97,7 @@ module _ (more : ℕ) (order : Order) (clock : ℕ → Stamps) (old : Rack)
   module _ (second : ℕ) (legal : (asked_of order.first).illegal ≡ false)
       (status : (format_for order).status ≡ true) where
     abbrev said : Spoken
-    said = Given (segment order.first (Command second) words)
+    said = Given (segment order.first (Some second) words)
 
     abbrev behind : Rack
     behind = behind_turn (suc (suc more)) line clock (said ∷ []) started
@@ -113,13 +112,13 @@ module _ (more : ℕ) (order : Order) (clock : ℕ → Stamps) (old : Rack)
     not_yet =
         let waits : desk_turn line stamps said (open_desk order old.desk)
         ≡ back_at (open_desk order old.desk) order at_first old.desk.ram =
-        given_turn order old.desk stamps (segment order.first (Command second) words)
+        given_turn order old.desk stamps (segment order.first (Some second) words)
         ∙ rw status in
         not_first (is_idle (desk_turn line stamps said (open_desk order old.desk)).state.message)
         (is_none (then_waiting (suc (suc more)) line clock (said ∷ []) started))
         (ap (λ (any : Desk). is_idle any.state.message) waits)
 
-    legal_ends : EndsBy (Command second)
+    legal_ends : EndsBy (Some second)
     unfolding turn
     legal_ends =
         comes_later (suc (suc more)) line clock (said ∷ []) started not_yet
@@ -133,11 +132,11 @@ module _ (more : ℕ) (order : Order) (clock : ℕ → Stamps) (old : Rack)
         (each_so (λ terminal is. turn_keeps_station line stamps said terminal) idle) different)
         (turn_late line 2 stamps said (open_desk order old.desk) (begins_late order old.desk)))
 
-  two_end : order.row ≡ Between → EndsBy (Command order.second)
+  two_end : order.row ≡ Between → EndsBy (Some order.second)
   two_end is = by_legal (asked_of order.first).illegal refl
     where
       by_legal : (illegal : Bool) → (asked_of order.first).illegal ≡ illegal
-          → EndsBy (Command order.second)
+          → EndsBy (Some order.second)
       by_legal true illegal = illegal_ends order.second illegal
       by_legal false legal =
           legal_ends order.second legal

@@ -1,5 +1,6 @@
 -- A terminal behind the words given, whatever these ask: it is idle again behind one command, and
 -- behind two of which the first is illegal. Assumes nothing.
+use Rattle.std.proofs.Common.{None, Some}
 use mathlib.Core.Path.{◌≡◌, ap, sym, ◌∙◌}
 use mathlib.Core.Logic.{◌≢◌}
 use mathlib.Core.Bool.{Bool, true}
@@ -9,7 +10,6 @@ use Rattle.rules.proofs.Clash.{clash}
 use Rattle.bus.specs.Command.{address_of}
 use Rattle.message.specs.declared.state.Stage.{Stage}
 use Rattle.message.specs.declared.state.Stage.TheVariants.{SecondCommand}
-use Rattle.message.specs.declared.state.Second.TheVariants.{Absent, Command}
 use Rattle.message.specs.Asked.{asked_of}
 use Rattle.terminal.specs.State.{Card}
 use Rattle.rack.specs.Segment.{Segment, segment, Given, words_on, at_station}
@@ -45,7 +45,7 @@ module _ (line : Bool) (stamps : Stamps) (first : ℕ) (words : List ℕ) (old :
   -- ---- one command
 
   abbrev alone : Segment
-  alone = segment first Absent words
+  alone = segment first None words
 
   pub record SettledAlone : Type 0 where
     pub settled : Settled (turn_of line stamps (Given alone) old)
@@ -71,7 +71,7 @@ module _ (line : Bool) (stamps : Stamps) (first : ℕ) (words : List ℕ) (old :
 
   module _ (second : ℕ) where
     abbrev both : Segment
-    both = segment first (Command second) words
+    both = segment first (Some second) words
 
     -- the first is illegal: all are idle again, and two may answer
     pub record SettledBoth : Type 0 where

@@ -1,5 +1,6 @@
 -- What a terminal has open behind the words given: nothing, a message of the first command, or one
 -- of the second. Assumes nothing.
+use Rattle.std.proofs.Common.{None, Option, Some, is_some}
 use mathlib.Core.Path.{◌≡◌, refl, sym, subst}
 use mathlib.Core.Bool.{Bool, true, false, not, ◌&&◌, beq, and-false}
 use Prim.Native.Nat.{ℕ}
@@ -14,12 +15,7 @@ use Rattle.message.specs.declared.state.Stage.TheVariants.{
   AwaitingStatus,
   Skipping,
 }
-use Rattle.message.specs.declared.state.Second.{Second}
-use Rattle.message.specs.declared.state.Second.TheVariants.{Absent, Command}
 use Rattle.message.specs.declared.state.OpenMessage.{OpenMessage}
-use Rattle.message.specs.declared.state.Message.{Message}
-use Rattle.message.specs.declared.state.Message.TheVariants.{Idle}
-use Rattle.message.specs.Message.{has_second}
 use Rattle.message.specs.Asked.{asked_of, asks}
 use Rattle.message.specs.Words.{
   own_command,
@@ -58,13 +54,13 @@ module _ (line : Bool) where
   -- ---- a command that finds nothing open
 
   idle_command : (Holds : ℕ → Stage → Type 0) (joined : Bool) (value time : ℕ) (now : Card)
-      → now.core.message ≡ Idle → ((asked_of value).illegal ≡ false → Holds value Data)
+      → now.core.message ≡ None → ((asked_of value).illegal ≡ false → Holds value Data)
       → ((asked_of value).illegal ≡ true → Holds value Skipping)
       → Met line Holds (step (word (command_word line joined value time)) now).card
   unfolding step word_step
   idle_command Holds joined value time now is in_data_lem skipping =
       let heard : Word = command_word line joined value time in
-      subst (λ (any : Message). Met line Holds (word_met any heard now).card) (sym is)
+      subst (λ (any : Option OpenMessage). Met line Holds (word_met any heard now).card) (sym is)
       (by_test (λ (any : Outcome). Met line Holds any.card)
       (own_command now.core.station now.core.flags heard)
       (λ _. opened_met line Holds heard now refl in_data_lem skipping) (λ _. idle is))
@@ -88,7 +84,7 @@ module _ (line : Bool) where
         let Fits = Needs line (OfEither first second) message heard in
         by_test Fits (leb (asks message).takes message.taken) (λ _. tt)
         (λ _. by_test Fits
-        ((asks message).receive && eqb message.taken 0 && not (has_second message.second))
+        ((asks message).receive && eqb message.taken 0 && not (is_some message.second))
         (λ _. by_test Fits (drops_broadcast station message.command second)
         (λ _. (opened refl tt, opened refl tt))
         (λ _. by_test Fits (is_second station message.command second)
@@ -121,7 +117,7 @@ module _ (line : Bool) where
 
   -- ---- the words given
 
-  pub given_met : (said : Segment) (time : ℕ → ℕ) (now : Card) → now.core.message ≡ Idle
+  pub given_met : (said : Segment) (time : ℕ → ℕ) (now : Card) → now.core.message ≡ None
       → Met line (OfGiven said.first said.second) (hears (words_on line time said) now)
   unfolding hears
   given_met said time now is =
@@ -134,10 +130,10 @@ module _ (line : Bool) where
           (λ legal. record { is = refl; stage_is = legal })
           (λ illegal. record { is = refl; stage_is = illegal })
 
-      by_second : (second : Second)
+      by_second : (second : Option ℕ)
           → Met line (OfGiven said.first second)
           (hears (words_on line time (segment said.first second said.words)) now)
-      by_second Absent = data_met line (OfFirst said.first) said.words time 1 _ first_met_lem
-      by_second (Command value) =
+      by_second None = data_met line (OfFirst said.first) said.words time 1 _ first_met_lem
+      by_second (Some value) =
           data_met line (OfEither said.first value) said.words time 2 _
           (second_met said.first value (time 1) _ first_met_lem)

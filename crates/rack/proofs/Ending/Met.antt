@@ -1,6 +1,7 @@
 -- What a terminal has open while the words of a segment come: nothing, or a message on the line, of
 -- a known command at a known stage. What each decision on a word makes of that; data words change
 -- neither. Assumes nothing.
+use Rattle.std.proofs.Common.{None, Option, Some}
 use mathlib.Core.Path.{◌≡◌, refl, sym, subst}
 use mathlib.Core.Bool.{Bool, true, false, beq}
 use mathlib.Core.List.{List, [], ◌∷◌}
@@ -28,8 +29,6 @@ use Rattle.message.specs.declared.state.Stage.TheVariants.{
   Skipping,
 }
 use Rattle.message.specs.declared.state.OpenMessage.{OpenMessage}
-use Rattle.message.specs.declared.state.Message.{Message}
-use Rattle.message.specs.declared.state.Message.TheVariants.{Idle, Open}
 use Rattle.message.specs.Message.{further}
 use Rattle.message.specs.Asked.{asked_of, asks, keeps_back}
 use Rattle.message.specs.Words.{
@@ -53,8 +52,8 @@ use Rattle.rack.specs.Hearing.{hears}
 
 module _ (line : Bool) (Holds : ℕ → Stage → Type 0) where
   pub data Met (now : Card) : Type 0 where
-    idle : now.core.message ≡ Idle → Met now
-    going : (message : OpenMessage) → now.core.message ≡ Open message → message.line ≡ line
+    idle : now.core.message ≡ None → Met now
+    going : (message : OpenMessage) → now.core.message ≡ Some message → message.line ≡ line
         → Holds message.command message.stage → Met now
 
   -- a message that a word opens
@@ -81,7 +80,7 @@ module _ (line : Bool) (Holds : ℕ → Stage → Type 0) where
   Needs message heard Drop = Holds heard.value Data × Holds heard.value Skipping
 
   module _ (message : OpenMessage) (heard : Word) (now : Card)
-      (is : now.core.message ≡ Open message) (on_line : message.line ≡ line)
+      (is : now.core.message ≡ Some message) (on_line : message.line ≡ line)
       (heard_on : heard.line ≡ line) where
     done_met : (act : WordAct) → Needs message heard act
         → Met (word_done act (asks message) message heard now).card
@@ -127,11 +126,11 @@ module _ (line : Bool) (Holds : ℕ → Stage → Type 0) where
         let same : beq line message.line ≡ true = rw on_line (beq_same line) in
         rw same (in_stage message.stage refl holds)
 
-  idle_data : (value time : ℕ) (now : Card) → now.core.message ≡ Idle
+  idle_data : (value time : ℕ) (now : Card) → now.core.message ≡ None
       → Met (step (word (data_word line value time)) now).card
   unfolding step word_step own_command
   idle_data value time now is =
-      subst (λ (any : Message). Met (word_met any (data_word line value time) now).card) (sym is)
+      subst (λ (any : Option OpenMessage). Met (word_met any (data_word line value time) now).card) (sym is)
       (idle is)
 
   one_data : (value time : ℕ) (now : Card) → Met now

@@ -1,5 +1,6 @@
 -- Replies as terminals give them: the status has the address of the one who says it. An idle
 -- terminal hears them without effect, and what a turn brings are such replies. Assumes nothing.
+use Rattle.std.proofs.Common.{None}
 use mathlib.Core.Path.{◌≡◌}
 use mathlib.Core.Bool.{Bool}
 use mathlib.Core.List.{List, [], ◌∷◌, ◌++◌}
@@ -7,7 +8,6 @@ use Prim.Native.Nat.{ℕ, ◌≤◌}
 use Rattle.rules.proofs.Choices.{by_test}
 use Rattle.bus.specs.Limits.{last_station}
 use Rattle.bus.specs.Command.{address_of}
-use Rattle.message.specs.declared.state.Second.TheVariants.{Absent}
 use Rattle.terminal.specs.State.{Card}
 use Rattle.terminal.specs.Event.{Outcome, quietly}
 use Rattle.rack.specs.Segment.{Segment, segment, Spoken, Nothing, Said}
@@ -28,7 +28,7 @@ use Rattle.rack.proofs.Terminal.Quiet.{quiet_at_nothing, quiet_at_reply}
 pub data Proper : Spoken → Type 0 where
   silent : Proper Nothing
   replies : {station status : ℕ} {words : List ℕ} → address_of status ≡ station
-      → station ≤ last_station → Proper (Said station (segment status Absent words))
+      → station ≤ last_station → Proper (Said station (segment status None words))
 
 pub data AllProper : List Spoken → Type 0 where
   none : AllProper []
@@ -76,7 +76,7 @@ with_proper : {spoken : Spoken} {others : List Spoken} → Proper spoken → All
     → AllProper (with_reply spoken others)
 with_proper silent proper = proper
 with_proper (replies {station} {status} {words} home low) proper =
-    placed_proper station (segment status Absent words) (replies home low) proper
+    placed_proper station (segment status None words) (replies home low) proper
 
 pub replies_proper : (line : Bool) (stamps : Stamps) (spoken : Spoken) {terminals : List Card}
     → Each (λ terminal. Proper (said_after (turn_of line stamps spoken terminal))) terminals

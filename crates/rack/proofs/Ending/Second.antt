@@ -1,5 +1,6 @@
 -- A terminal that is idle or awaits the status of another, behind the next turn: it is idle, and
 -- only the command that awaited is answered. Assumes nothing.
+use Rattle.std.proofs.Common.{None, Some}
 use mathlib.Core.Path.{◌≡◌, refl, ap, sym, subst, ◌∙◌}
 use mathlib.Core.Logic.{◌≢◌}
 use mathlib.Core.Bool.{Bool}
@@ -13,9 +14,7 @@ use Rattle.bus.specs.Limits.{last_station}
 use Rattle.bus.specs.Command.{address_of}
 use Rattle.message.specs.declared.state.Stage.{Stage}
 use Rattle.message.specs.declared.state.Stage.TheVariants.{SecondCommand}
-use Rattle.message.specs.declared.state.Second.TheVariants.{Absent}
 use Rattle.message.specs.declared.state.OpenMessage.{OpenMessage}
-use Rattle.message.specs.declared.state.Message.TheVariants.{Open}
 use Rattle.terminal.specs.State.{Card}
 use Rattle.terminal.specs.Event.{silence, Outcome, quietly}
 use Rattle.terminal.specs.Machine.{step}
@@ -65,7 +64,7 @@ module _ (line : Bool) (stamps : Stamps) (first : ℕ) (now : Card) where
   -- ---- it awaits the status of another
 
   module _ (sound : WholeAndFit now) (own : OwnStatus now.core) (message : OpenMessage)
-      (is_open : now.core.message ≡ Open message) (on_line : message.line ≡ line)
+      (is_open : now.core.message ≡ Some message) (on_line : message.line ≡ line)
       (waiting : Waiting first message.command message.stage) where
     -- no second command is to be taken, and the command is the first
     by_behind : {Holds : ℕ → Stage → Type 0} {spoken : Spoken}
@@ -99,16 +98,16 @@ module _ (line : Bool) (stamps : Stamps) (first : ℕ) (now : Card) where
 
     reply_heard : (speaker status : ℕ) (words : List ℕ) → address_of status ≡ speaker
         → speaker ≤ last_station → speaker ≢ now.core.station
-        → SettledThen (Said speaker (segment status Absent words))
+        → SettledThen (Said speaker (segment status None words))
     unfolding turn_of at_station
     reply_heard speaker status words home low other =
         by_behind {Holds = OfCommand first} (λ command stage holds. holds.is)
         (λ command holds. holds.plain)
         (rw (ne_eqb speaker now.core.station other)
         (silence_behind line (OfCommand first)
-        (hears (words_on line stamps.word (segment status Absent words)) now)
+        (hears (words_on line stamps.word (segment status None words)) now)
         stamps.silence
-        (hears_whole_and_fit (words_on line stamps.word (segment status Absent words)) now sound)
+        (hears_whole_and_fit (words_on line stamps.word (segment status None words)) now sound)
         (reply_met line first status message waiting words stamps.word now is_open on_line
         (status_is_strange speaker status now home low other))))
 

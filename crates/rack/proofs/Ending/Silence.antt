@@ -1,5 +1,6 @@
 -- What the silence leaves behind a segment: nothing open, and perhaps a reply, which has the
 -- address of the command; or another's status is awaited, and nothing is said. Assumes nothing.
+use Rattle.std.proofs.Common.{None, Option, Some}
 use mathlib.Core.Path.{◌≡◌, refl, sym, subst}
 use mathlib.Core.Bool.{Bool, true, false, not, ◌&&◌, ◌||◌, beq}
 use mathlib.Core.List.{List}
@@ -19,10 +20,7 @@ use Rattle.message.specs.declared.state.Stage.TheVariants.{
   AwaitingStatus,
   Skipping,
 }
-use Rattle.message.specs.declared.state.Second.TheVariants.{Absent}
 use Rattle.message.specs.declared.state.OpenMessage.{OpenMessage}
-use Rattle.message.specs.declared.state.Message.{Message}
-use Rattle.message.specs.declared.state.Message.TheVariants.{Idle, Open}
 use Rattle.message.specs.Message.{further}
 use Rattle.message.specs.Asked.{asks}
 use Rattle.message.specs.Silence.{silence_in_stage, on_silence}
@@ -59,18 +57,18 @@ module _ (line : Bool) (Holds : ℕ → Stage → Type 0) where
     nothing : said_after outcome ≡ Nothing → Says outcome
     a_reply : (command : ℕ) (stage : Stage) (words : List ℕ)
         → said_after outcome
-        ≡ Said outcome.card.core.station (segment outcome.card.core.status Absent words)
+        ≡ Said outcome.card.core.station (segment outcome.card.core.status None words)
         → address_of command ≡ outcome.card.core.station → Plain stage → Holds command stage
         → Says outcome
 
   pub data Behind (outcome : Outcome) : Type 0 where
-    over : outcome.card.core.message ≡ Idle → Says outcome → Behind outcome
-    waits : (message : OpenMessage) → outcome.card.core.message ≡ Open message
+    over : outcome.card.core.message ≡ None → Says outcome → Behind outcome
+    waits : (message : OpenMessage) → outcome.card.core.message ≡ Some message
         → message.line ≡ line → message.stage ≡ AwaitingStatus
         → Holds message.command SecondCommand → said_after outcome ≡ Nothing → Behind outcome
 
   module _ (now : Card) (sound : WholeAndFit now) (time : ℕ) (message : OpenMessage)
-      (is : now.core.message ≡ Open message) (on_line : message.line ≡ line) where
+      (is : now.core.message ≡ Some message) (on_line : message.line ≡ line) where
     abbrev done : SilenceAct → Outcome
     done act = silence_done act (asks message) message time now
 
@@ -134,11 +132,11 @@ module _ (line : Bool) (Holds : ℕ → Stage → Type 0) where
         let same : beq line message.line ≡ true = rw on_line (beq_same line) in
         rw same
 
-  idle_behind : (now : Card) (time : ℕ) → now.core.message ≡ Idle
+  idle_behind : (now : Card) (time : ℕ) → now.core.message ≡ None
       → Behind (step (silence line time) now)
   unfolding step silence_step said_in
   idle_behind now time is =
-      subst (λ (any : Message). Behind (silence_met any line time now)) (sym is)
+      subst (λ (any : Option OpenMessage). Behind (silence_met any line time now)) (sym is)
       (over is (nothing refl))
 
   pub silence_behind : (now : Card) (time : ℕ) → WholeAndFit now → Met line Holds now

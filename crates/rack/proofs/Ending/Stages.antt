@@ -1,5 +1,6 @@
 -- The commands of a segment that a terminal may have open, and the stages of their messages.
 -- Definitions only. Assumes nothing.
+use Rattle.std.proofs.Common.{None, Option, Some}
 use mathlib.Core.Path.{◌≡◌}
 use mathlib.Core.Bool.{Bool, true, false}
 use Prim.Native.Nat.{ℕ}
@@ -10,8 +11,6 @@ use Rattle.message.specs.declared.state.Stage.TheVariants.{
   AwaitingStatus,
   Skipping,
 }
-use Rattle.message.specs.declared.state.Second.{Second}
-use Rattle.message.specs.declared.state.Second.TheVariants.{Absent, Command}
 use Rattle.message.specs.Asked.{asked_of}
 
 -- words are taken, or skipped
@@ -47,9 +46,9 @@ pub data OfEither (first second command : ℕ) (stage : Stage) : Type 0 where
   opened : command ≡ second → Plain stage → OfEither first second command stage
 
 -- behind the words given
-abbrev pub OfGiven : ℕ → Second → ℕ → Stage → Type 0
-OfGiven first Absent = OfFirst first
-OfGiven first (Command second) = OfEither first second
+abbrev pub OfGiven : ℕ → Option ℕ → ℕ → Stage → Type 0
+OfGiven first None = OfFirst first
+OfGiven first (Some second) = OfEither first second
 
 -- it awaits the status of another
 pub record Waiting (first command : ℕ) (stage : Stage) : Type 0 where

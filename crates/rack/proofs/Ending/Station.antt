@@ -1,4 +1,5 @@
 -- A terminal keeps its station, whatever it hears. Assumes nothing.
+use Rattle.std.proofs.Common.{None, Option, Some}
 use mathlib.Core.Path.{◌≡◌, refl, ◌∙◌}
 use mathlib.Core.Bool.{Bool, true, false, cond}
 use mathlib.Core.List.{List, [], ◌∷◌}
@@ -19,8 +20,6 @@ use Rattle.message.specs.declared.judge.WordAct.TheVariants.{
 use Rattle.message.specs.declared.judge.SilenceAct.{SilenceAct}
 use Rattle.message.specs.declared.judge.SilenceAct.TheVariants as silences
 use Rattle.message.specs.declared.state.OpenMessage.{OpenMessage}
-use Rattle.message.specs.declared.state.Message.{Message}
-use Rattle.message.specs.declared.state.Message.TheVariants.{Idle, Open}
 use Rattle.message.specs.Asked.{asks}
 use Rattle.message.specs.Words.{own_command}
 use Rattle.terminal.specs.State.{Card, with_status, with_last, with_switches, with_message}
@@ -48,16 +47,16 @@ word_done_lem (Fault code) asked message heard old = refl
 word_done_lem Supersede asked message heard old = refl
 word_done_lem Drop asked message heard old = refl
 
-word_met_lem : (message : Message) (heard : Word) (old : Card)
+word_met_lem : (message : Option OpenMessage) (heard : Word) (old : Card)
     → (word_met message heard old).card.core.station ≡ old.core.station
 unfolding opening opened_core with_message with_last with_status
-word_met_lem Idle heard old = go (own_command old.core.station old.core.flags heard)
+word_met_lem None heard old = go (own_command old.core.station old.core.flags heard)
   where
     go : (own : Bool)
         → (cond own (opens heard old) (quietly old)).card.core.station ≡ old.core.station
     go true = refl
     go false = refl
-word_met_lem (Open message) heard old =
+word_met_lem (Some message) heard old =
     word_done_lem (word_judged old message heard) (asks message) message heard old
 
 words_heard : (words : List Word) (old : Card)
@@ -78,10 +77,10 @@ silence_done_lem silences.AwaitStatus asked message time old = refl
 silence_done_lem (silences.Fault code) asked message time old = refl
 silence_done_lem silences.End asked message time old = refl
 
-silence_met_lem : (message : Message) (line : Bool) (time : ℕ) (old : Card)
+silence_met_lem : (message : Option OpenMessage) (line : Bool) (time : ℕ) (old : Card)
     → (silence_met message line time old).card.core.station ≡ old.core.station
-silence_met_lem Idle line time old = refl
-silence_met_lem (Open message) line time old =
+silence_met_lem None line time old = refl
+silence_met_lem (Some message) line time old =
     silence_done_lem (silence_judged message line) (asks message) message time old
 
 -- ---- a turn

@@ -1,12 +1,12 @@
 -- A terminal behind a turn that leaves nothing open: it is idle, what it says is proper, and it
 -- says nothing if the command that it could answer is to another station. Assumes nothing.
+use Rattle.std.proofs.Common.{None}
 use mathlib.Core.Path.{◌≡◌, sym, subst, ◌∙◌}
 use mathlib.Core.Logic.{◌≢◌}
 use mathlib.Core.Bool.{Bool}
 use Prim.Native.Nat.{ℕ}
 use Rattle.bus.specs.Command.{address_of}
 use Rattle.message.specs.declared.state.Stage.{Stage}
-use Rattle.message.specs.declared.state.Message.TheVariants.{Idle}
 use Rattle.terminal.specs.State.{Card}
 use Rattle.terminal.specs.Event.{Outcome}
 use Rattle.terminal_laws.specs.AtRest.{WholeAndFit}
@@ -27,7 +27,7 @@ module _ (line : Bool) (stamps : Stamps) (spoken : Spoken) (old : Card) where
 
   module _ (sound : WholeAndFit old) (own : OwnStatus old.core)
       {Holds : ℕ → Stage → Type 0} where
-    pub settles : outcome.card.core.message ≡ Idle → Says line Holds outcome → Settled outcome
+    pub settles : outcome.card.core.message ≡ None → Says line Holds outcome → Settled outcome
     settles is says = record { idle = idle; proper = proper says }
       where
         idle : IsIdle outcome.card

@@ -1,5 +1,6 @@
 -- A terminal behind two commands of which the first is legal, whatever they ask: it is idle again,
 -- or awaits the status of another, and only the second command is answered. Assumes nothing.
+use Rattle.std.proofs.Common.{Some}
 use mathlib.Core.Path.{◌≡◌, ap, sym, subst, ◌∙◌}
 use mathlib.Core.Logic.{◌≢◌}
 use mathlib.Core.Bool.{Bool, false}
@@ -9,9 +10,7 @@ use Rattle.rules.proofs.Clash.{clash}
 use Rattle.bus.specs.Command.{address_of}
 use Rattle.message.specs.declared.state.Stage.{Stage}
 use Rattle.message.specs.declared.state.Stage.TheVariants.{SecondCommand}
-use Rattle.message.specs.declared.state.Second.TheVariants.{Command}
 use Rattle.message.specs.declared.state.OpenMessage.{OpenMessage}
-use Rattle.message.specs.declared.state.Message.TheVariants.{Open}
 use Rattle.message.specs.Asked.{asked_of}
 use Rattle.terminal.specs.State.{Card}
 use Rattle.terminal.specs.Event.{Outcome}
@@ -32,12 +31,12 @@ use Rattle.rack.proofs.Ending.First.{given_behind}
 pub data IdleOrWaits (line : Bool) (first : ℕ) (now : Card) : Type 0 where
   rests : IsIdle now → IdleOrWaits line first now
   awaits : WholeAndFit now → OwnStatus now.core → (message : OpenMessage)
-      → now.core.message ≡ Open message → message.line ≡ line
+      → now.core.message ≡ Some message → message.line ≡ line
       → Waiting first message.command message.stage → IdleOrWaits line first now
 
 module _ (line : Bool) (stamps : Stamps) (first second : ℕ) (words : List ℕ) (old : Card) where
   abbrev both : Spoken
-  both = Given (segment first (Command second) words)
+  both = Given (segment first (Some second) words)
 
   abbrev outcome : Outcome
   outcome = turn_of line stamps both old
@@ -85,4 +84,4 @@ module _ (line : Bool) (stamps : Stamps) (first second : ℕ) (words : List ℕ)
   pub kept_both : (asked_of first).illegal ≡ false → IsIdle old → KeptBoth
   kept_both legal idle =
       by_behind legal idle
-      (given_behind line stamps (segment first (Command second) words) old idle)
+      (given_behind line stamps (segment first (Some second) words) old idle)

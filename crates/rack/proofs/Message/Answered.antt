@@ -1,5 +1,6 @@
 -- The answer on the bus: of the terminals one took a command and replies; what it says, and that
 -- the controller holds it behind the words given. Assumes nothing.
+use Rattle.std.proofs.Common.{None}
 use mathlib.Core.Path.{◌≡◌, ap, subst, ◌∙◌}
 use mathlib.Core.Bool.{Bool, false, ◌||◌}
 use mathlib.Core.List.{List, [], ◌∷◌}
@@ -11,7 +12,6 @@ use Rattle.bus.specs.Command.{address_of, is_broadcast}
 use Rattle.card.specs.declared.place.Block.{Block}
 use Rattle.card.specs.Memory.{block_cells, the_cell, word_address, cell_at, with_cells}
 use Rattle.card.proofs.CellLaws.{cell_of_with_cells}
-use Rattle.message.specs.declared.state.Second.TheVariants.{Absent}
 use Rattle.message.specs.Asked.{asked_of}
 use Rattle.terminal.specs.State.{Card}
 use Rattle.terminal.specs.Event.{Outcome}
@@ -44,7 +44,7 @@ module _ (line : Bool) (stamps : Stamps) (spoken : Spoken) where
     pub status : ℕ
     pub reply : List ℕ
     pub heard : replies_to line stamps spoken terminals
-        ≡ Said (address_of command) (segment status Absent reply) ∷ []
+        ≡ Said (address_of command) (segment status None reply) ∷ []
     pub home : address_of status ≡ address_of command
     pub low : address_of command ≤ last_station
     pub long : length reply ≡ (asked_of command).sends
@@ -76,7 +76,7 @@ module _ (line : Bool) (stamps : Stamps) (spoken : Spoken) where
         reply = reply;
         heard = found.heard
             ∙ ap (λ (any : Spoken). with_reply any []) (took.said to_one)
-            ∙ ap (λ (station : ℕ). Said station (segment status Absent reply) ∷ []) found.is;
+            ∙ ap (λ (station : ℕ). Said station (segment status None reply) ∷ []) found.is;
         home = took.idle.status ∙ took.station ∙ found.is;
         low =
             subst (λ (station : ℕ). station ≤ last_station) found.is

@@ -1,5 +1,6 @@
 -- A data receive that has taken a second command awaits the status of the other terminal, takes it
 -- and the words behind it, and ends as any other. Assumes nothing.
+use Rattle.std.proofs.Common.{None, Some}
 use mathlib.Core.Path.{◌≡◌, refl, ap, sym, subst, ◌∙◌}
 use mathlib.Core.Logic.{◌≢◌}
 use mathlib.Core.Bool.{false}
@@ -13,7 +14,6 @@ use Rattle.card.specs.Memory.{block_cells, the_cell, word_address}
 use Rattle.message.specs.declared.judge.WordAct.TheVariants.{TakeStatus}
 use Rattle.message.specs.declared.judge.SilenceAct.TheVariants.{AwaitStatus}
 use Rattle.message.specs.declared.state.Stage.TheVariants.{Data, SecondCommand, AwaitingStatus}
-use Rattle.message.specs.declared.state.Second.TheVariants.{Absent, Command}
 use Rattle.message.specs.declared.state.OpenMessage.{OpenMessage}
 use Rattle.message.specs.Message.{further}
 use Rattle.message.specs.Asked.{asks}
@@ -44,7 +44,7 @@ module _ (message : OpenMessage) (old : Card) (value : ℕ) where
   unfolding silence_done on_silence further with_message
   status_is_awaited time =
       silence_step_lem (card_at value SecondCommand message old)
-      (further SecondCommand (Command value) 0 message) refl message.line time
+      (further SecondCommand (Some value) 0 message) refl message.line time
       {act = AwaitStatus} (rw (beq_same message.line))
 
   pub status_is_taken : (status time : ℕ) → address_of status ≡ address_of value
@@ -55,7 +55,7 @@ module _ (message : OpenMessage) (old : Card) (value : ℕ) where
   unfolding word_done on_word own_command in_awaiting_status further with_message
   status_is_taken status time same strange =
       word_step_lem (card_at value AwaitingStatus message old)
-      (further AwaitingStatus (Command value) 0 message) refl
+      (further AwaitingStatus (Some value) 0 message) refl
       (command_word message.line false status time) {act = TakeStatus}
       (rw (
         strange,
@@ -68,7 +68,7 @@ module _ (message : OpenMessage) (old : Card) (value : ℕ) where
 module _ (message : OpenMessage) (old : Card) (value : ℕ) where
   -- what the end leaves does not hang on the second command
   ended_as_opened : (words : List ℕ) (outcome : Outcome)
-      → Ended (further Data (Command value) 0 message) words (card_at value Data message old)
+      → Ended (further Data (Some value) 0 message) words (card_at value Data message old)
       outcome
       → Ended message words old outcome
   unfolding further with_message
@@ -86,7 +86,7 @@ module _ (message : OpenMessage) (old : Card) (value : ℕ) where
   module _ (not_busy : message.busy ≡ false) (elsewhere : TableElsewhere (asks message) message)
       (in_memory : word_address message.block (the_cell block_cells) ≤ length old.ram)
       (words : List ℕ) (full : length words ≡ (asks message).takes) where
-    at_data : AtItsData (further Data (Command value) 0 message) (card_at value Data message old)
+    at_data : AtItsData (further Data (Some value) 0 message) (card_at value Data message old)
     unfolding further with_message
     at_data = record { is_open = refl; in_data_lem = refl; none_yet = refl; not_busy = not_busy }
 
@@ -97,7 +97,7 @@ module _ (message : OpenMessage) (old : Card) (value : ℕ) where
     unfolding further
     words_end time place silence_time =
         ended_as_opened words _
-        (words_then_silence (further Data (Command value) 0 message)
+        (words_then_silence (further Data (Some value) 0 message)
         (card_at value Data message old) at_data words full elsewhere in_memory time place
         silence_time)
 
@@ -106,7 +106,7 @@ module _ (message : OpenMessage) (old : Card) (value : ℕ) where
         → address_of value ≢ old.core.station → speaker ≡ address_of value
         → address_of status ≡ speaker
         → Ended message words old
-        (turn_of message.line stamps (Said speaker (segment status Absent words))
+        (turn_of message.line stamps (Said speaker (segment status None words))
         (card_at value AwaitingStatus message old))
     unfolding turn_of at_station with_message
     reply_ends stamps speaker status to_one other is_sender is_status =

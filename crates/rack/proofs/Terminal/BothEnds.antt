@@ -1,12 +1,12 @@
 -- The two ends of a transfer: the transmitter replies behind the commands, the receiver waits there
 -- and takes the words that come then. Assumes nothing.
+use Rattle.std.proofs.Common.{None, Some}
 use mathlib.Core.Path.{◌≡◌, ap, sym, subst, ◌∙◌}
 use mathlib.Core.Bool.{Bool, true, false}
 use mathlib.Core.List.{List, []}
 use Prim.Native.Nat.{ℕ}
 use lib.ListN.{length}
 use Rattle.bus.specs.Command.{address_of}
-use Rattle.message.specs.declared.state.Second.TheVariants.{Absent, Command}
 use Rattle.message.specs.Asked.{asked_of}
 use Rattle.terminal.specs.State.{Card, with_status, with_last, with_message}
 use Rattle.terminal.specs.Opening.{opened_message, opened_core, opening}
@@ -37,7 +37,7 @@ use Rattle.rack.proofs.Terminal.Receiver.{awaiting, sender_is_other, receiver_aw
 
 -- the commands of a transfer
 abbrev pub commands_of : ℕ → ℕ → Spoken
-commands_of first second = Given (segment first (Command second) [])
+commands_of first second = Given (segment first (Some second) [])
 
 module _ (line : Bool) (stamps : Stamps) (first second : ℕ) (fit : FitTransfer first second)
     (old : Card) (idle : IsIdle old) where
@@ -78,7 +78,7 @@ module _ (line : Bool) (stamps : Stamps) (first second : ℕ) (fit : FitTransfer
         → speaker ≡ address_of second → address_of status ≡ speaker
         → length words ≡ (asked_of first).takes
         → Ended (message_of line false first time old) words (opened_card line false first time old)
-        (turn_of line later (Said speaker (segment status Absent words))
+        (turn_of line later (Said speaker (segment status None words))
         (awaiting line time first second old))
     unfolding opening opened_core opened_message with_message with_last with_status
     reply_taken later speaker status words is_sender is_status full =
@@ -104,7 +104,7 @@ module _ (line : Bool) (stamps : Stamps) (first second : ℕ) (fit : FitTransfer
               ∙ quiet_says_nothing (awaiting line time first second old);
           station = ap (λ (outcome : Outcome). outcome.card.core.station) is_awaiting;
           takes = λ later speaker status words is_sender is_status full.
-              let reply = Said speaker (segment status Absent words) in
+              let reply = Said speaker (segment status None words) in
               let sound_then = turn_whole_and_fit line stamps spoken old sound in
               took_at_end line false first time old words
               (turn_of line later reply behind_commands.card) columns.first_fit ready

@@ -1,5 +1,6 @@
 -- A message in its data whose words come, and then the silence: what that leaves. One law for every
 -- command, for the end of a receive, a transmit, a transfer and a mode command. Assumes nothing.
+use Rattle.std.proofs.Common.{None}
 use mathlib.Core.Path.{◌≡◌, refl, ap, sym, subst, ◌∙◌}
 use mathlib.Core.Bool.{true, false, cond}
 use mathlib.Core.List.{List}
@@ -13,9 +14,7 @@ use Rattle.card.specs.Sent.{sent_part}
 use Rattle.card.proofs.CellLaws.{cell_of_with_cells}
 use Rattle.card.proofs.Frame.{cells_keep}
 use Rattle.message.specs.declared.judge.SilenceAct.TheVariants.{End}
-use Rattle.message.specs.declared.state.Second.TheVariants.{Absent}
 use Rattle.message.specs.declared.state.OpenMessage.{OpenMessage}
-use Rattle.message.specs.declared.state.Message.TheVariants.{Idle}
 use Rattle.message.specs.Message.{further}
 use Rattle.message.specs.Asked.{asks}
 use Rattle.message.proofs.AskedBounds.{takes_at_most, cell_in_table}
@@ -43,7 +42,7 @@ use Rattle.rack.proofs.Terminal.Said.{broadcast_is_silent, reply_is_said}
 -- the message of the card `old` has ended, with `words` taken
 pub record Ended (message : OpenMessage) (words : List ℕ) (old : Card) (outcome : Outcome)
     : Type 0 where
-  pub idle : outcome.card.core.message ≡ Idle
+  pub idle : outcome.card.core.message ≡ None
   pub station : outcome.card.core.station ≡ old.core.station
   pub status : outcome.card.core.status ≡ old.core.status
   pub stored : (cell : ℕ) → cell < length words
@@ -56,7 +55,7 @@ pub record Ended (message : OpenMessage) (words : List ℕ) (old : Card) (outcom
       → (asks message).last ≡ false
       → said_after outcome
       ≡ Said old.core.station
-      (segment old.core.status Absent
+      (segment old.core.status None
       (sent_part card_blocks outcome.card.ram message.block (asks message).sends))
 
 module _ (message : OpenMessage) (old : Card) (at_data : AtItsData message old) (words : List ℕ)

@@ -8,6 +8,7 @@ use native.Mathlib.Omega.{arith}
 use lib.Dec.{eqb, leb}
 use lib.ListN.{get_or}
 use borrow.Author.Tests.{eqb-false, not-true}
+use Rattle.std.proofs.Common.{Option, Some, None}
 use Rattle.rules.proofs.Choices.{by_test}
 use Rattle.rules.proofs.Halves.{first_of_both, second_of_both}
 use Rattle.rules.proofs.Clash.{clash}
@@ -28,7 +29,7 @@ use Rattle.bus.specs.declared.kind.Kind.TheVariants.{
 }
 use Rattle.bus.specs.Command.{is_transmit, is_broadcast, is_mode, mode_code_of, words_of}
 use Rattle.bus.specs.Mode.{reserved, mode_table, mode_of}
-use Rattle.bus.specs.Kind.{mode_kind_of, kind_of}
+use Rattle.bus.specs.Kind.{mode_kind_of, row_kind_of, kind_of}
 use Rattle.message.specs.Words.{asks_for_data}
 
 -- a word count is never 0
@@ -71,14 +72,16 @@ is_sent Without = false
 is_sent Sent = true
 is_sent Taken = false
 
-abbrev sent_to_one : Mode → Bool
-sent_to_one row = not (is_sent row.word && row.broadcast)
+-- a reserved code sends nothing
+abbrev sent_to_one : Option Mode → Bool
+sent_to_one None = true
+sent_to_one (Some row) = not (is_sent row.word && row.broadcast)
 
-abbrev all_to_one : List Mode → Bool
+abbrev all_to_one : List (Option Mode) → Bool
 all_to_one [] = true
 all_to_one (row ∷ rows) = sent_to_one row && all_to_one rows
 
-row_to_one : (rows : List Mode) (code : ℕ) → all_to_one rows ≡ true
+row_to_one : (rows : List (Option Mode)) (code : ℕ) → all_to_one rows ≡ true
     → sent_to_one (get_or rows code reserved) ≡ true
 row_to_one [] code all = refl
 row_to_one (row ∷ rows) zero all = first_of_both (sent_to_one row) (all_to_one rows) all
@@ -92,31 +95,36 @@ mode_to_one code = row_to_one mode_table code refl
 abbrev SendsNone : Kind → Type 0
 SendsNone kind = sends_words kind ≡ false
 
-mode_sends_none : (word : ModeWord) (broadcast legal same : Bool) (code : ℕ)
+mode_sends_none : (word : ModeWord) (broadcast same : Bool) (code : ℕ)
     → not (is_sent word && broadcast) ≡ true
-    → SendsNone (cond (legal && same && (broadcast || false)) (mode_kind_of word code) Illegal)
-mode_sends_none Without broadcast legal same code to_one =
-    by_test SendsNone (legal && same && (broadcast || false)) (λ may.
+    → SendsNone (cond (same && (broadcast || false)) (mode_kind_of word code) Illegal)
+mode_sends_none Without broadcast same code to_one =
+    by_test SendsNone (same && (broadcast || false)) (λ may.
     by_test SendsNone (eqb code 2) (λ status. refl) (λ other.
     by_test SendsNone (leb 4 code && leb code 7) (λ switch. refl) (λ reply. refl)))
     (λ not_allowed. refl)
-mode_sends_none Sent true legal same code to_one = absurd (clash (cc))
-mode_sends_none Sent false false same code to_one = refl
-mode_sends_none Sent false true false code to_one = refl
-mode_sends_none Sent false true true code to_one = refl
-mode_sends_none Taken broadcast legal same code to_one =
-    by_test SendsNone (legal && same && (broadcast || false)) (λ may. refl) (λ not_allowed. refl)
+mode_sends_none Sent true same code to_one = absurd (clash (cc))
+mode_sends_none Sent false false code to_one = refl
+mode_sends_none Sent false true code to_one = refl
+mode_sends_none Taken broadcast same code to_one =
+    by_test SendsNone (same && (broadcast || false)) (λ may. refl) (λ not_allowed. refl)
+
+row_sends_none : (row : Option Mode) (command : ℕ) → is_broadcast command ≡ true
+    → sent_to_one row ≡ true → SendsNone (row_kind_of row command)
+row_sends_none None command to_all_lem to_one = refl
+row_sends_none (Some row) command to_all_lem to_one =
+    rw to_all_lem
+    (mode_sends_none row.word row.broadcast (beq (is_transmit command) row.transmit)
+    (mode_code_of command) to_one)
 
 broadcast_sends_none : (command : ℕ) → is_broadcast command ≡ true → SendsNone (kind_of command)
 unfolding kind_of
 broadcast_sends_none command to_all_lem =
-    let code = mode_code_of command in
-    let row = mode_of code in
+    by_test SendsNone (is_mode command) (λ mode.
+    row_sends_none (mode_of (mode_code_of command)) command to_all_lem
+    (mode_to_one (mode_code_of command))) (λ no_mode.
     rw to_all_lem
-    (by_test SendsNone (is_mode command) (λ mode.
-    mode_sends_none row.word row.broadcast row.legal
-    (beq (is_transmit command) row.transmit) code (mode_to_one code)) (λ no_mode.
-    by_test SendsNone (not (is_transmit command)) (λ receives. refl) (λ transmits. refl)))
+    (by_test SendsNone (not (is_transmit command)) (λ receives. refl) (λ transmits. refl)))
 
 pub sends_to_one : (command : ℕ) → sends_words (kind_of command) ≡ true
     → is_broadcast command ≡ false

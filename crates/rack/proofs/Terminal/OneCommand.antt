@@ -1,11 +1,11 @@
 -- A command that is given alone, with its data words behind it, is taken in one turn. Assumes
 -- nothing.
+use Rattle.std.proofs.Common.{None}
 use mathlib.Core.Path.{◌≡◌, refl, sym, subst}
 use mathlib.Core.Bool.{Bool, true, false}
 use mathlib.Core.List.{List}
 use Prim.Native.Nat.{ℕ}
 use lib.ListN.{length}
-use Rattle.message.specs.declared.state.Second.TheVariants.{Absent}
 use Rattle.message.specs.Asked.{asked_of}
 use Rattle.terminal.specs.State.{Card, with_message, with_last, with_status}
 use Rattle.terminal.specs.Opening.{opened_message, opened_core, opening}
@@ -46,12 +46,12 @@ opened_ends line joined command time old words fit full idle ready times place s
 pub command_is_taken : (line : Bool) (stamps : Stamps) (command : ℕ) (words : List ℕ) (old : Card)
     → FitCommand command → length words ≡ (asked_of command).takes
     → IsIdle old → is_own command old ≡ true → Ready line command old
-    → Took command words old (turn_of line stamps (Given (segment command Absent words)) old)
+    → Took command words old (turn_of line stamps (Given (segment command None words)) old)
 unfolding turn_of at_station
 command_is_taken line stamps command words old fit full idle own ready =
     let sound = idle.rest.whole_and_fit in
     let time : ℕ = stamps.word 0 in
-    let spoken = Given (segment command Absent words) in
+    let spoken = Given (segment command None words) in
     let behind = data_words line stamps.word 1 words in
     took_at_end line false command time old words (turn_of line stamps spoken old) fit ready
     (turn_whole_and_fit line stamps spoken old sound)

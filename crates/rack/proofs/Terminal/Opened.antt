@@ -1,5 +1,6 @@
 -- An own command that an idle terminal hears opens its message, and a fit command's is then in its
 -- data; the end of that message leaves what `Took` says. Assumes nothing.
+use Rattle.std.proofs.Common.{None, Option}
 use mathlib.Core.Path.{◌≡◌, refl, ap, sym, ◌∙◌}
 use mathlib.Core.Bool.{Bool, true, false}
 use mathlib.Core.List.{List}
@@ -7,10 +8,7 @@ use Prim.Native.Nat.{ℕ, ◌<◌}
 use Rattle.bus.specs.declared.word.Word.{Word}
 use Rattle.card.specs.Memory.{card_blocks}
 use Rattle.message.specs.declared.state.Stage.TheVariants.{Data}
-use Rattle.message.specs.declared.state.Second.TheVariants.{Absent}
 use Rattle.message.specs.declared.state.OpenMessage.{OpenMessage}
-use Rattle.message.specs.declared.state.Message.{Message}
-use Rattle.message.specs.declared.state.Message.TheVariants.{Idle}
 use Rattle.message.specs.Asked.{asked_of}
 use Rattle.message.specs.Words.{own_command}
 use Rattle.message.proofs.AskedBounds.{sends_at_most}
@@ -47,10 +45,10 @@ module _ (line joined : Bool) (command time : ℕ) (old : Card) where
   abbrev pub opened_card : Card
   opened_card = opening heard old
 
-  pub own_opens : old.core.message ≡ Idle → is_own command old ≡ true
+  pub own_opens : old.core.message ≡ None → is_own command old ≡ true
       → (step (word heard) old).card ≡ opened_card
   unfolding step word_step own_command
-  own_opens idle own = ap (λ (met : Message). (word_met met heard old).card) idle ∙ rw own
+  own_opens idle own = ap (λ (met : Option OpenMessage). (word_met met heard old).card) idle ∙ rw own
 
   -- the message of a legal command is in its data
   pub opened_in_data : (asked_of command).illegal ≡ false → message_of.stage ≡ Data
@@ -98,7 +96,7 @@ module _ (line joined : Bool) (command time : ℕ) (old : Card) where
         said = λ to_one.
             ended.said to_one (ready.not_shut to_one) fit.not_last
             ∙ ap (λ (status : ℕ). Said old.core.station
-            (segment status Absent (sent_by command old outcome.card))) (sym ended.status);
+            (segment status None (sent_by command old outcome.card))) (sym ended.status);
       }
 
 -- over another opening, a command that makes status and last command anew opens the same

@@ -1,5 +1,6 @@
 -- A terminal with nothing open that hears no own command is as before and silent, whoever speaks.
 -- Assumes nothing.
+use Rattle.std.proofs.Common.{None, Option, Some}
 use mathlib.Core.Path.{◌≡◌, refl, ap, sym, subst, ◌∙◌}
 use mathlib.Core.Logic.{◌≢◌}
 use mathlib.Core.Bool.{Bool, true, false}
@@ -10,10 +11,6 @@ use borrow.Author.Tests.{ne_eqb, eq-eqb}
 use Rattle.bus.specs.declared.word.Word.{Word}
 use Rattle.bus.specs.Command.{address_of}
 use Rattle.bus.specs.Limits.{last_station}
-use Rattle.message.specs.declared.state.Second.{Second}
-use Rattle.message.specs.declared.state.Second.TheVariants.{Absent, Command}
-use Rattle.message.specs.declared.state.Message.{Message}
-use Rattle.message.specs.declared.state.Message.TheVariants.{Idle}
 use Rattle.message.specs.Words.{own_command}
 use Rattle.terminal.specs.State.{Card}
 use Rattle.terminal.specs.Event.{word, silence, quietly}
@@ -37,11 +34,12 @@ use Rattle.rack.specs.Hearing.{Stamps, hears, turn_of, said_in, said_after}
 use Rattle.rack.specs.Asked.{is_own}
 use Rattle.rack.proofs.Terminal.Own.{status_is_strange}
 use Rattle.rack.proofs.Terminal.Hear.{hears_quietly}
+use Rattle.message.specs.declared.state.OpenMessage.{OpenMessage}
 
 -- no word of the segment is an own command
-abbrev pub SecondStrange : Second → Card → Type 0
-SecondStrange Absent old = Unit {0}
-SecondStrange (Command value) old = is_own value old ≡ false
+abbrev pub SecondStrange : Option ℕ → Card → Type 0
+SecondStrange None old = Unit {0}
+SecondStrange (Some value) old = is_own value old ≡ false
 
 pub record Strange (said : Segment) (old : Card) : Type 0 where
   pub first : is_own said.first old ≡ false
@@ -53,15 +51,15 @@ quiet_says_nothing old = refl
 
 -- ---- a word, and a silence
 
-module _ (old : Card) (idle : old.core.message ≡ Idle) where
+module _ (old : Card) (idle : old.core.message ≡ None) where
   quiet_silence : (line : Bool) (time : ℕ) → step (silence line time) old ≡ quietly old
   unfolding step silence_step
-  quiet_silence line time = ap (λ (met : Message). silence_met met line time old) idle
+  quiet_silence line time = ap (λ (met : Option OpenMessage). silence_met met line time old) idle
 
   quiet_word : (heard : Word) → own_command old.core.station old.core.flags heard ≡ false
       → step (word heard) old ≡ quietly old
   unfolding step word_step
-  quiet_word heard strange = ap (λ (met : Message). word_met met heard old) idle ∙ rw strange
+  quiet_word heard strange = ap (λ (met : Option OpenMessage). word_met met heard old) idle ∙ rw strange
 
   pub quiet_command : (line joined : Bool) (value time : ℕ) → is_own value old ≡ false
       → step (word (command_word line joined value time)) old ≡ quietly old
@@ -81,10 +79,10 @@ module _ (old : Card) (idle : old.core.message ≡ Idle) where
       (quiet_word (data_word line value (time place)) refl)
       (quiet_data values line time (suc place))
 
-  quiet_behind : (second : Second) (values : List ℕ) (line : Bool) (time : ℕ → ℕ)
+  quiet_behind : (second : Option ℕ) (values : List ℕ) (line : Bool) (time : ℕ → ℕ)
       → SecondStrange second old → hears (behind_first line time second values) old ≡ old
-  quiet_behind Absent values line time strange = quiet_data values line time 1
-  quiet_behind (Command value) values line time strange =
+  quiet_behind None values line time strange = quiet_data values line time 1
+  quiet_behind (Some value) values line time strange =
       hears_quietly (command_word line true value (time 1)) (data_words line time 2 values) old
       (quiet_command line true value (time 1) strange) (quiet_data values line time 2)
 
@@ -101,7 +99,7 @@ module _ (old : Card) (idle : old.core.message ≡ Idle) where
 
 -- ---- a turn
 
-module _ (line : Bool) (stamps : Stamps) (old : Card) (idle : old.core.message ≡ Idle) where
+module _ (line : Bool) (stamps : Stamps) (old : Card) (idle : old.core.message ≡ None) where
   pub quiet_at_nothing : turn_of line stamps Nothing old ≡ quietly old
   unfolding turn_of at_station hears
   quiet_at_nothing = quiet_silence old idle line stamps.silence
@@ -129,9 +127,9 @@ module _ (line : Bool) (stamps : Stamps) (old : Card) (idle : old.core.message �
   -- a reply of any terminal, its own or another's: the status has the address of the one who speaks
   pub quiet_at_reply : (speaker status : ℕ) (words : List ℕ) → address_of status ≡ speaker
       → speaker ≤ last_station
-      → turn_of line stamps (Said speaker (segment status Absent words)) old ≡ quietly old
+      → turn_of line stamps (Said speaker (segment status None words)) old ≡ quietly old
   quiet_at_reply speaker status words is low =
-      let reply : Segment = segment status Absent words in
+      let reply : Segment = segment status None words in
       elim (ℕ_discrete speaker old.core.station) [
         | yes same ↦
             subst (λ (any : ℕ). turn_of line stamps (Said any reply) old ≡ quietly old) (sym same)

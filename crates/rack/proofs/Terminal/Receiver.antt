@@ -1,5 +1,6 @@
 -- The receiver of a transfer at the two commands: it takes the second one and, behind the silence,
 -- awaits the status of the other terminal. Assumes nothing.
+use Rattle.std.proofs.Common.{Some}
 use mathlib.Core.Path.{◌≡◌, ap, sym, ◌∙◌}
 use mathlib.Core.Logic.{◌≢◌}
 use mathlib.Core.Bool.{Bool, true, false}
@@ -8,7 +9,6 @@ use Prim.Native.Nat.{ℕ}
 use Rattle.rules.proofs.Clash.{clash}
 use Rattle.bus.specs.Command.{address_of}
 use Rattle.message.specs.declared.state.Stage.TheVariants.{SecondCommand, AwaitingStatus}
-use Rattle.message.specs.declared.state.Second.TheVariants.{Command}
 use Rattle.terminal.specs.State.{Card, with_status, with_last, with_message}
 use Rattle.terminal.specs.Opening.{opened_message, opened_core, opening}
 use Rattle.terminal.specs.Event.{word, silence, Outcome, quietly}
@@ -63,7 +63,7 @@ module _ (first second : ℕ) (fit : FitTransfer first second) (old : Card)
         stamps.silence
 
     pub receiver_awaits : IsIdle old → is_own first old ≡ true
-        → turn_of line stamps (Given (segment first (Command second) [])) old
+        → turn_of line stamps (Given (segment first (Some second) [])) old
         ≡ quietly (awaiting line time first second old)
     unfolding turn_of at_station data_words hears
     receiver_awaits idle own =

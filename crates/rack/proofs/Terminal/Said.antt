@@ -1,5 +1,6 @@
 -- What a terminal says at the sound end of a message: nothing to a broadcast; else its status, then
 -- as many words of the block as the command asks. Assumes nothing.
+use Rattle.std.proofs.Common.{None}
 use mathlib.Core.Path.{◌≡◌, ap, sym}
 use mathlib.Core.Bool.{true, false, cond}
 use mathlib.Core.List.{List}
@@ -9,7 +10,6 @@ use Rattle.bus.specs.Command.{is_broadcast}
 use Rattle.card.specs.Memory.{card_blocks}
 use Rattle.card.specs.Sent.{sent_part}
 use Rattle.message.specs.declared.asked.Asked.{Asked}
-use Rattle.message.specs.declared.state.Second.TheVariants.{Absent}
 use Rattle.message.specs.declared.state.OpenMessage.{OpenMessage}
 use Rattle.terminal.specs.declared.state.Core.{Core}
 use Rattle.terminal.specs.declared.state.Reply.TheVariants.{Status, Words}
@@ -33,7 +33,7 @@ module _ (asked : Asked) (core : Core) (message : OpenMessage) (station : ℕ) (
       → message.busy ≡ false → asked.last ≡ false
       → said_then
       ≡ Said station
-      (segment core.status Absent (sent_part card_blocks ram message.block asked.sends))
+      (segment core.status None (sent_part card_blocks ram message.block asked.sends))
   unfolding reply_of replies
   reply_is_said to_one not_shut not_busy not_last =
       rw (to_one, not_shut, not_busy, not_last) (by_sends asked.sends)
@@ -43,8 +43,8 @@ module _ (asked : Asked) (core : Core) (message : OpenMessage) (station : ℕ) (
           (reply_words ram (cond (eqb sends 0) (Status core.status)
           (Words core.status message.block sends)))
           ≡ Said station
-          (segment core.status Absent (sent_part card_blocks ram message.block sends))
+          (segment core.status None (sent_part card_blocks ram message.block sends))
       by_sends zero =
-          ap (λ (words : List ℕ). Said station (segment core.status Absent words))
+          ap (λ (words : List ℕ). Said station (segment core.status None words))
           (sym (none_sent card_blocks ram message.block))
       by_sends (suc sends) = rw (eqb-suc-zero sends)

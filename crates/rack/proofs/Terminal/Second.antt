@@ -1,5 +1,6 @@
 -- A data receive that has taken no word yet meets the second command of a transfer: it takes that
 -- of another terminal, and a broadcast is dropped for an own one. Assumes nothing.
+use Rattle.std.proofs.Common.{None, Some}
 use mathlib.Core.Path.{◌≡◌, refl, ap, ◌∙◌}
 use mathlib.Core.Logic.{◌≢◌}
 use mathlib.Core.Bool.{Bool, true, false, and-false}
@@ -12,9 +13,7 @@ use Rattle.bus.specs.Command.{address_of, is_broadcast, mode_code_of}
 use Rattle.message.specs.declared.judge.WordAct.TheVariants.{TakeSecond, Drop}
 use Rattle.message.specs.declared.state.Stage.{Stage}
 use Rattle.message.specs.declared.state.Stage.TheVariants.{Data, SecondCommand}
-use Rattle.message.specs.declared.state.Second.TheVariants.{Absent, Command}
 use Rattle.message.specs.declared.state.OpenMessage.{OpenMessage}
-use Rattle.message.specs.declared.state.Message.TheVariants.{Open}
 use Rattle.message.specs.Asked.{asks}
 use Rattle.message.specs.Words.{own_command, asks_for_data, in_data, on_word}
 use Rattle.terminal.specs.State.{Card, with_message}
@@ -33,16 +32,16 @@ use Rattle.rack.proofs.Terminal.Columns.{transfer_columns}
 
 -- a data receive at its first word: it may be a second command
 pub record AtItsSecond (message : OpenMessage) (old : Card) : Type 0 where
-  pub is_open : old.core.message ≡ Open message
+  pub is_open : old.core.message ≡ Some message
   pub in_data_lem : message.stage ≡ Data
   pub none_taken : message.taken ≡ 0
-  pub none_yet : message.second ≡ Absent
+  pub none_yet : message.second ≡ None
   pub receives : (asks message).receive ≡ true
   pub some : 0 < (asks message).takes
 
 -- the card where a second command is taken, at a stage
 abbrev pub card_at : ℕ → Stage → OpenMessage → Card → Card
-card_at value stage message old = onward old message stage (Command value) 0 old.ram
+card_at value stage message old = onward old message stage (Some value) 0 old.ram
 
 module _ (message : OpenMessage) (old : Card) (first : AtItsSecond message old) (value : ℕ)
     (asks_for_data_lem : asks_for_data value ≡ true) where

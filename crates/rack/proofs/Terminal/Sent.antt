@@ -1,23 +1,24 @@
 -- The words that a reply sends, on a card of any size: as many as are asked for, each the word of
 -- its cell, and none where none is asked for. Assumes nothing.
-use mathlib.Core.Path.{◌≡◌, refl, ap, sym, ◌∙◌}
+use mathlib.Core.Path.{◌≡◌, ap, ◌∙◌}
 use mathlib.Core.List.{List, []}
 use Prim.Native.Nat.{ℕ, zero, suc, ◌≤◌, ◌<◌}
 use native.Mathlib.Omega.{arith}
 use lib.ListN.{length, get_or, take, drop, length-drop}
 use lib.Seq.{length-take-le}
-use borrow.Author.Tests.{eq-eqb, le-leb, lt-ltb}
+use borrow.Author.Tests.{eq-eqb, ne_eqb, le-leb, lt-ltb}
 use Rattle.card.specs.declared.place.Block.{Block}
 use Rattle.card.specs.Memory.{block_cells, data_cells, words_in, the_cell, word_address, cell_at}
 use Rattle.card.specs.Part.{part_refusal, shown_part}
 use Rattle.card.specs.Sent.{sent_part}
 use Rattle.card.proofs.CellLaws.{cell_of_part}
-use Rattle.card.proofs.PartLaws.{Shown, shown, part_refused}
+use Rattle.card.proofs.PartLaws.{Shown, shown}
 
 -- no words are no part
 pub none_sent : (blocks : ℕ) (ram : List ℕ) (block : Block) → sent_part blocks ram block 0 ≡ []
+unfolding shown_part
 none_sent blocks ram block =
-    sym (part_refused blocks data_cells ram block 0 _ refl
+    rw (ne_eqb (part_refusal blocks data_cells (length ram) block 0) 0
     (λ none. omega (arith, (shown blocks data_cells (length ram) block 0 none).some)))
 
 -- a part that is asked for rightly is shown

@@ -1,5 +1,6 @@
 -- A message in its data takes the words of a segment, all at once, and the silence behind them is
 -- its sound end. For every command. Assumes nothing.
+use Rattle.std.proofs.Common.{Some}
 use mathlib.Core.Path.{◌≡◌, refl, ◌∙◌}
 use mathlib.Core.Bool.{false}
 use mathlib.Core.List.{List}
@@ -14,7 +15,6 @@ use Rattle.card.specs.Memory.{with_cells}
 use Rattle.message.specs.declared.judge.SilenceAct.TheVariants.{End}
 use Rattle.message.specs.declared.state.Stage.TheVariants.{Data}
 use Rattle.message.specs.declared.state.OpenMessage.{OpenMessage}
-use Rattle.message.specs.declared.state.Message.TheVariants.{Open}
 use Rattle.message.specs.Message.{further}
 use Rattle.message.specs.Asked.{asks}
 use Rattle.message.specs.Silence.{on_silence}
@@ -32,7 +32,7 @@ use Rattle.rack.proofs.Terminal.Hear.{hears_is_run}
 
 -- the message is open and in its data, none of its words is taken, and none is kept back
 pub record AtItsData (message : OpenMessage) (old : Card) : Type 0 where
-  pub is_open : old.core.message ≡ Open message
+  pub is_open : old.core.message ≡ Some message
   pub in_data_lem : message.stage ≡ Data
   pub none_yet : message.taken ≡ 0
   pub not_busy : message.busy ≡ false
@@ -70,7 +70,7 @@ module _ (message : OpenMessage) (old : Card) (at_data : AtItsData message old) 
 -- ---- then a silence is the end
 
 pub filled_is_open : (words : List ℕ) (message : OpenMessage) (old : Card)
-    → (filled words message old).core.message ≡ Open (filled_message words message)
+    → (filled words message old).core.message ≡ Some (filled_message words message)
 unfolding with_message
 filled_is_open words message old = refl
 

@@ -1,5 +1,6 @@
 -- What a terminal has made of a command that it took, from idle to idle; and of the commands of a
 -- transfer that it is to receive, whose words are still to come. Definitions only. Assumes nothing.
+use Rattle.std.proofs.Common.{None}
 use mathlib.Core.Path.{◌≡◌}
 use mathlib.Core.Bool.{Bool, true, false}
 use mathlib.Core.List.{List}
@@ -8,7 +9,6 @@ use lib.ListN.{length, get_or}
 use Rattle.bus.specs.Command.{address_of, is_broadcast}
 use Rattle.card.specs.Memory.{card_blocks, the_cell, cell_at}
 use Rattle.card.specs.Sent.{sent_part}
-use Rattle.message.specs.declared.state.Second.TheVariants.{Absent}
 use Rattle.message.specs.Asked.{asked_of}
 use Rattle.terminal.specs.State.{Card}
 use Rattle.terminal.specs.Event.{Outcome}
@@ -44,7 +44,7 @@ pub record Took (command : ℕ) (words : List ℕ) (old : Card) (outcome : Outco
   pub said : is_broadcast command ≡ false
       → said_after outcome
       ≡ Said old.core.station
-      (segment outcome.card.core.status Absent (sent_by command old outcome.card))
+      (segment outcome.card.core.status None (sent_by command old outcome.card))
 
 -- the commands of a transfer are heard and the words are to come: the other's status brings them
 pub record Waits (line : Bool) (first second : ℕ) (old : Card) (outcome : Outcome)
@@ -55,4 +55,4 @@ pub record Waits (line : Bool) (first second : ℕ) (old : Card) (outcome : Outc
       → speaker ≡ address_of second → address_of status ≡ speaker
       → length words ≡ (asked_of first).takes
       → Took first words old
-      (turn_of line stamps (Said speaker (segment status Absent words)) outcome.card)
+      (turn_of line stamps (Said speaker (segment status None words)) outcome.card)

@@ -1,5 +1,6 @@
 -- The cells that may change, one kind left out at a time: data cells, cells 58 to 61, the link.
 -- Each claim is false; with all three it is the theorem. Assumes nothing.
+use Rattle.std.proofs.Common.{None, Option, Some}
 use mathlib.Core.Path.{◌≡◌, refl}
 use mathlib.Core.Bool.{Bool, true, false}
 use mathlib.Core.List.{List, [], ◌∷◌}

@@ -1,5 +1,6 @@
 -- The claim that both ends hold the same, by what is asked, so that one thing can be left out at a
 -- time; with all of it, it is the theorem. Assumes nothing.
+use Rattle.std.proofs.Common.{None, Option, Some}
 use mathlib.Core.Path.{◌≡◌}
 use mathlib.Core.Bool.{Bool}
 use mathlib.Core.List.{List, [], ◌∷◌}

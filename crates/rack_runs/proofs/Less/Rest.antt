@@ -1,5 +1,6 @@
 -- Terminals that are not idle: a message open, a strange status remembered, a memory that is not
 -- whole, a state that is not fit. Each claim is false. Assumes nothing.
+use Rattle.std.proofs.Common.{None, Some}
 use mathlib.Core.Path.{◌≡◌, refl, ap}
 use mathlib.Core.Bool.{Bool, true, false}
 use mathlib.Core.List.{[], ◌∷◌}
@@ -10,7 +11,6 @@ use Rattle.rules.proofs.Clash.{clash}
 use Rattle.card.specs.Memory.{card_words, the_block}
 use Rattle.queue.specs.Queue.{empty_queue}
 use Rattle.message.specs.declared.state.OpenMessage.{OpenMessage}
-use Rattle.message.specs.declared.state.Message.TheVariants.{Idle, Open}
 use Rattle.terminal.specs.State.{Card, card, with_status, core_at_setup}
 use Rattle.terminal.specs.Event.{word}
 use Rattle.terminal.specs.Machine.{step}
@@ -68,7 +68,7 @@ begins = starts_by ToTerminal false to_five refl refl refl
 
 -- ---- a message may be open
 
-idle_is_not_open : {message : OpenMessage} → Idle ≡ Open message → ⊥
+idle_is_not_open : {message : OpenMessage} → None ≡ Some message → ⊥
 idle_is_not_open same = clash (cc)
 
 record EvenOpen (terminal : Card) : Type 0 where
@@ -129,7 +129,7 @@ a_strange_status_would_be_taken claim =
 
 record AnyMemory (terminal : Card) : Type 0 where
   fit : fit_card terminal ≡ true
-  idle : terminal.core.message ≡ Idle
+  idle : terminal.core.message ≡ None
   status : OwnStatus terminal.core
 
 -- a card of four blocks sends no words
@@ -155,7 +155,7 @@ a_memory_that_is_not_whole_would_send claim =
 
 record AnyState (terminal : Card) : Type 0 where
   whole_memory : length terminal.ram ≡ card_words
-  idle : terminal.core.message ≡ Idle
+  idle : terminal.core.message ≡ None
   status : OwnStatus terminal.core
 
 -- flags go up to 63

@@ -1,5 +1,6 @@
 -- One broken message costs one block, with one thing less asked: each such claim is false, by two
 -- runs that the checker computes. Assumes nothing.
+use Rattle.std.proofs.Common.{None, Option}
 use mathlib.Core.Path.{◌≡◌, refl, ap}
 use mathlib.Core.Logic.{◌≢◌}
 use mathlib.Core.Bool.{Bool}
@@ -13,8 +14,6 @@ use Rattle.bus.specs.Word.{word_of}
 use Rattle.card.specs.declared.place.Block.{Block}
 use Rattle.card.specs.Memory.{the_block}
 use Rattle.queue.specs.declared.Queue.{Queue}
-use Rattle.message.specs.declared.state.Message.{Message}
-use Rattle.message.specs.declared.state.Message.TheVariants.{Idle}
 use Rattle.terminal.specs.declared.state.Reply.TheVariants.{Silent, Status, Words}
 use Rattle.terminal.specs.declared.state.Answer.{Answer}
 use Rattle.terminal.specs.declared.state.Answer.TheVariants.{Replied}
@@ -62,11 +61,12 @@ use Rattle.runs.proofs.OneBlock.Claim.{
   tray_command,
   kept_elsewhere,
 }
+use Rattle.message.specs.declared.state.OpenMessage.{OpenMessage}
 
 -- ---- two replies
 
 -- a reply where there is none in the other run
-silent_too : {before : Bool} {message : Message} {answer other : Answer}
+silent_too : {before : Bool} {message : Option OpenMessage} {answer other : Answer}
     → SameAnswer before message answer other → other ≡ Replied Silent → answer ≡ Replied Silent
 silent_too same is = is
 silent_too (status_but_error asks but) is = cc
@@ -168,7 +168,7 @@ an_open_message_would_differ claim =
 -- the next event opens a message, joined or not
 data SettledByAny (here there : Card) : List Event → Type 0 where
   closed_too : {after : List Event}
-      → here.core.message ≡ Idle → there.core.message ≡ Idle → SettledByAny here there after
+      → here.core.message ≡ None → there.core.message ≡ None → SettledByAny here there after
   opened_next : {after : List Event} (next : Word) → (step (word next) here).opened ≢ none
       → SettledByAny here there (word next ∷ after)
 

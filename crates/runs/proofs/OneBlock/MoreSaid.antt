@@ -1,5 +1,6 @@
 -- One broken message costs one block, with one exception less: each such claim is false, by two
 -- runs that the checker computes. Assumes nothing.
+use Rattle.std.proofs.Common.{Option, Some}
 use mathlib.Core.Path.{◌≡◌, refl, ap}
 use mathlib.Core.Logic.{◌≢◌}
 use mathlib.Core.Bool.{Bool, true}
@@ -15,8 +16,6 @@ use Rattle.card.specs.declared.place.Block.{Block}
 use Rattle.card.specs.declared.place.Cell.{Cell}
 use Rattle.card.specs.Memory.{the_block, word_address}
 use Rattle.message.specs.declared.state.OpenMessage.{OpenMessage}
-use Rattle.message.specs.declared.state.Message.{Message}
-use Rattle.message.specs.declared.state.Message.TheVariants.{Open}
 use Rattle.terminal.specs.declared.state.Reply.TheVariants.{Status, Last}
 use Rattle.terminal.specs.declared.state.Answer.{Answer}
 use Rattle.terminal.specs.declared.state.Answer.TheVariants.{Replied}
@@ -75,12 +74,12 @@ the_message_error_bit_differs claim =
 
 -- an answer, with the exception for the message error bit in a reply to "transmit status word"
 -- alone
-data AnswerButInStatus : Bool → Message → Answer → Answer → Type 0 where
-  the_same : {before : Bool} {message : Message} {answer : Answer}
+data AnswerButInStatus : Bool → Option OpenMessage → Answer → Answer → Type 0 where
+  the_same : {before : Bool} {message : Option OpenMessage} {answer : Answer}
       → AnswerButInStatus before message answer answer
   but_error : {message : OpenMessage} {status other : ℕ}
       → kind_of message.command ≡ ModeStatus → without_error status ≡ without_error other
-      → AnswerButInStatus true (Open message) (Replied (Status status)) (Replied (Status other))
+      → AnswerButInStatus true (Some message) (Replied (Status status)) (Replied (Status other))
 
 unfoldable AnswersButInStatus : Bool → List Event → Card → Card → Type 0
 AnswersButInStatus before [] here there = Unit {0}
@@ -94,7 +93,7 @@ AnswersButInStatus before (event ∷ after) here there =
 abbrev SameButInStatus : (Block → Type 0) → List Event → Card → Card → Type 0
 SameButInStatus Spent after here there = AnswersButInStatus true after here there
 
-same_last : {before : Bool} {message : Message} {answer other : Answer} {status last : ℕ}
+same_last : {before : Bool} {message : Option OpenMessage} {answer other : Answer} {status last : ℕ}
     → AnswerButInStatus before message answer other
     → answer ≡ Replied (Last status last) → other ≡ Replied (Last status last)
 same_last the_same is = is

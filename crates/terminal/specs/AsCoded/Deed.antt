@@ -1,7 +1,7 @@
 -- What words do to the open message, one deed for the acts that do alike, and what silences reply:
 -- the cut that the code makes. What it comes to is said by `WordStep` and `SilenceStep`.
 -- Definitions only. Assumes nothing.
-use Rattle.std.specs.Prelude.{Bool, true, false, cond}
+use Rattle.std.specs.Prelude.{Bool, true, false, cond, None, Option, Some}
 use Rattle.bus.specs.declared.word.Word.{Word}
 use Rattle.message.specs.declared.asked.Asked.{Asked}
 use Rattle.message.specs.declared.judge.WordAct.{WordAct}
@@ -9,10 +9,7 @@ use Rattle.message.specs.declared.judge.WordAct.TheVariants as word_acts
 use Rattle.message.specs.declared.judge.SilenceAct.{SilenceAct}
 use Rattle.message.specs.declared.judge.SilenceAct.TheVariants as silence_acts
 use Rattle.message.specs.declared.state.Stage.TheVariants.{Data, SecondCommand}
-use Rattle.message.specs.declared.state.Second.TheVariants.{Command}
 use Rattle.message.specs.declared.state.OpenMessage.{OpenMessage}
-use Rattle.message.specs.declared.state.Message.{Message}
-use Rattle.message.specs.declared.state.Message.TheVariants.{Idle, Open}
 use Rattle.message.specs.Message.{further}
 use Rattle.message.specs.Asked.{asks}
 use Rattle.message.specs.Words.{own_command, on_word}
@@ -29,10 +26,10 @@ use Rattle.terminal.specs.Closing.{faulted, reply_of}
 -- ---- a word
 
 -- with nothing open a word is judged as one that drops what was open, or is ignored
-abbrev pub act_on_message : Message → Word → Core → WordAct
-act_on_message Idle word core =
+abbrev pub act_on_message : Option OpenMessage → Word → Core → WordAct
+act_on_message None word core =
     cond (own_command core.station core.flags word) word_acts.Drop word_acts.Ignore
-act_on_message (Open message) word core =
+act_on_message (Some message) word core =
     on_word core.station core.flags (asks message) message word
 
 unfoldable pub act_on : Word → Core → WordAct
@@ -43,7 +40,7 @@ word_deed word_acts.Ignore message = word_deeds.Rest
 word_deed (word_acts.Store taken) message = word_deeds.Store taken
 word_deed (word_acts.Check taken) message = word_deeds.GoOn Data message.second taken
 word_deed (word_acts.TakeSecond value) message =
-    word_deeds.GoOn SecondCommand (Command value) message.taken
+    word_deeds.GoOn SecondCommand (Some value) message.taken
 word_deed word_acts.TakeStatus message = word_deeds.GoOn Data message.second message.taken
 word_deed (word_acts.Fault code) message = word_deeds.Fault code
 word_deed word_acts.Supersede message = word_deeds.Fault 7
@@ -62,15 +59,15 @@ opens_by word_acts.Drop = true
 unfoldable pub word_deed_done : WordDeed → OpenMessage → Word → Card → Card
 word_deed_done word_deeds.Rest message word old = old
 word_deed_done (word_deeds.GoOn stage second taken) message word old =
-    with_core (with_message (Open (further stage second taken message)) old.core) old
+    with_core (with_message (Some (further stage second taken message)) old.core) old
 word_deed_done (word_deeds.Store taken) message word old =
     word_stored word.value taken message old
 word_deed_done (word_deeds.Fault code) message word old =
     faulted (asks message) code word.time message old
 
-abbrev pub done_to_message : Message → WordAct → Word → Card → Card
-done_to_message Idle act word old = old
-done_to_message (Open message) act word old =
+abbrev pub done_to_message : Option OpenMessage → WordAct → Word → Card → Card
+done_to_message None act word old = old
+done_to_message (Some message) act word old =
     word_deed_done (word_deed act message) message word old
 
 unfoldable pub done_by : WordAct → Word → Card → Card

@@ -1,5 +1,6 @@
 -- Which words open a message, by `search` through the tests of rules 1 to 8: of unjoined words only
 -- an own command does. Assumes nothing.
+use Rattle.std.proofs.Common.{None, Option, Some}
 use mathlib.Core.Path.{◌≡◌, refl}
 use mathlib.Core.Logic.{◌≢◌}
 use mathlib.Core.Bool.{Bool, true, false, cond, not, beq, or-true}
@@ -26,8 +27,6 @@ use Rattle.message.specs.declared.state.Stage.TheVariants.{
   Skipping,
 }
 use Rattle.message.specs.declared.state.OpenMessage.{OpenMessage}
-use Rattle.message.specs.declared.state.Message.{Message}
-use Rattle.message.specs.declared.state.Message.TheVariants.{Idle, Open}
 use Rattle.message.specs.Asked.{asks}
 use Rattle.message.specs.Words.{
   own_command,
@@ -107,18 +106,18 @@ module _ (heard : Word) (unjoined : heard.joined ≡ false) where
       (λ here. no_opening_stage message.stage station asked message))
 
   -- an unjoined word that opens a message is an own command ..
-  opening_is_own : (message : Message) (old : Card)
+  opening_is_own : (message : Option OpenMessage) (old : Card)
       → (word_met message heard old).opened ≢ none
       → own_command old.core.station old.core.flags heard ≡ true
   opening_is_own message old opening =
       go (own_command old.core.station old.core.flags heard) refl message opening
     where
       go : (own : Bool) → own_command old.core.station old.core.flags heard ≡ own
-          → (message : Message) → (word_met message heard old).opened ≢ none
+          → (message : Option OpenMessage) → (word_met message heard old).opened ≢ none
           → own_command old.core.station old.core.flags heard ≡ true
       go true is message opening = is
-      go false is Idle opening = absurd (opening (rw is refl))
-      go false is (Open message) opening =
+      go false is None opening = absurd (opening (rw is refl))
+      go false is (Some message) opening =
           absurd (opening
           (nothing_opened (asks message) message heard old
           (no_opening_word old.core.station old.core.flags (asks message)

@@ -1,5 +1,6 @@
 -- The answers of two related runs: the same reply but for the message error bit, and at most 32
 -- words sent. Assumes nothing.
+use Rattle.std.proofs.Common.{None, Option, Some}
 use mathlib.Core.Path.{◌≡◌, refl, sym, subst}
 use mathlib.Core.Bool.{Bool, true, false, cond, not, ◌&&◌}
 use Prim.Native.Nat.{ℕ, ◌≤◌}
@@ -25,8 +26,6 @@ use Rattle.card.specs.declared.place.Block.{Block}
 use Rattle.message.specs.declared.judge.SilenceAct.{SilenceAct}
 use Rattle.message.specs.declared.judge.SilenceAct.TheVariants.{Ignore, AwaitStatus, Fault, End}
 use Rattle.message.specs.declared.state.OpenMessage.{OpenMessage}
-use Rattle.message.specs.declared.state.Message.{Message}
-use Rattle.message.specs.declared.state.Message.TheVariants.{Idle, Open}
 use Rattle.message.specs.Asked.{asked_by, asks}
 use Rattle.message.specs.Silence.{on_silence}
 use Rattle.message.proofs.AskedBounds.{sends_at_most}
@@ -72,7 +71,7 @@ module _ (message : OpenMessage) (core : Core) (status : ℕ)
     (but : without_error core.status ≡ without_error status) where
   -- "transmit status word" sends no words, busy or not
   status_reply : (given busy : Bool) → kind_of message.command ≡ ModeStatus
-      → SameAnswer true (Open message)
+      → SameAnswer true (Some message)
       (Replied (cond (not given) Silent
       (cond (eqb (cond (busy && false) 0 0) 0) (Status core.status)
       (Words core.status message.block 0))))
@@ -85,14 +84,14 @@ module _ (message : OpenMessage) (core : Core) (status : ℕ)
 
   -- "transmit last command" sends that
   last_reply : (given : Bool) → kind_of message.command ≡ ModeLast
-      → SameAnswer true (Open message)
+      → SameAnswer true (Some message)
       (Replied (cond (not given) Silent (Last core.status core.last)))
       (Replied (cond (not given) Silent (Last status core.last)))
   last_reply false is = same
   last_reply true is = last_but_error is but
 
   asked_reply : (kind : Kind) → kind_of message.command ≡ kind → Asks kind
-      → SameAnswer true (Open message)
+      → SameAnswer true (Some message)
       (Replied (reply_of (asked_by kind message.command) core message))
       (Replied (reply_of (asked_by kind message.command) (with_status status core) message))
   unfolding reply_of replies with_status asked_by
@@ -108,8 +107,8 @@ module _ (message : OpenMessage) (core : Core) (status : ℕ)
   asked_reply Illegal is asks = elim asks [ ]
 
 pub same_reply : {before : Bool} (message : OpenMessage) (core : Core) (status : ℕ)
-    → Statuses before (Open message) core.status status
-    → SameAnswer before (Open message)
+    → Statuses before (Some message) core.status status
+    → SameAnswer before (Some message)
     (Replied (reply_of (asks message) core message))
     (Replied (reply_of (asks message) (with_status status core) message))
 unfolding reply_of replies with_status
@@ -143,10 +142,10 @@ at_most_done End message time old =
     by_test Given (eqb (unless_busy asked message asked.sends) 0) (λ _. a_status) (λ _.
     some_words (sends_at_most message.command))))
 
-at_most_silence : (message : Message) (line : Bool) (time : ℕ) (old : Card)
+at_most_silence : (message : Option OpenMessage) (line : Bool) (time : ℕ) (old : Card)
     → AtMost32 (silence_met message line time old).answer
-at_most_silence Idle line time old = silent
-at_most_silence (Open message) line time old =
+at_most_silence None line time old = silent
+at_most_silence (Some message) line time old =
     at_most_done (on_silence (asks message) message line) message time old
 
 at_most_answer : (event : Event) (old : Card) → AtMost32 (step event old).answer

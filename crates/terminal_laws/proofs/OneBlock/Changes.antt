@@ -1,5 +1,6 @@
 -- What both runs do to related cards leaves them related: going on, closing, faults, the sound end,
 -- opening. Assumes nothing.
+use Rattle.std.proofs.Common.{Option, Some}
 use mathlib.Core.Path.{◌≡◌, refl, sym, subst}
 use mathlib.Core.Bool.{Bool, true, false, cond}
 use mathlib.Core.List.{List}
@@ -25,8 +26,6 @@ use Rattle.card.specs.Time.{ticks_of}
 use Rattle.queue.specs.declared.Queue.{Queue}
 use Rattle.message.specs.declared.asked.Asked.{Asked}
 use Rattle.message.specs.declared.state.OpenMessage.{OpenMessage}
-use Rattle.message.specs.declared.state.Message.{Message}
-use Rattle.message.specs.declared.state.Message.TheVariants.{Open}
 use Rattle.message.specs.Asked.{asked_by, asked_of}
 use Rattle.message.proofs.AskedBounds.{cell_in_table}
 use Rattle.terminal.specs.declared.state.Core.{Core}
@@ -96,11 +95,11 @@ both_closed {Spent} {ram} {other} asked state time message agree = go asked.bloc
 -- ---- the remembered status at an opening
 
 -- a message of another command makes it anew, the same in both
-statuses_opened : {before : Bool} {message : Message} (kind : Kind) (table_word : ℕ) (word : Word)
+statuses_opened : {before : Bool} {message : Option OpenMessage} (kind : Kind) (table_word : ℕ) (word : Word)
     (core : Core) (status : ℕ) → kind_of word.value ≡ kind
     → Statuses before message core.status status
     → Statuses (still_before before (opened_by (asked_by kind word.value)))
-    (Open (opened_message (asked_by kind word.value) table_word word core))
+    (Some (opened_message (asked_by kind word.value) table_word word core))
     (opened_status (asked_by kind word.value) table_word word core)
     (opened_status (asked_by kind word.value) table_word word (with_status status core))
 unfolding still_before opened_by asked_by opened_status opened_message with_status
@@ -125,7 +124,7 @@ module _ {Spent : Block → Type 0} {before : Bool} (core : Core) (status : ℕ)
     (queue queue' : Queue) (queues : SameQueue queue queue')
     (ram other : List ℕ) (agree : Agree Spent ram other) where
   pub related_faulted : (asked : Asked) (code time : ℕ) (message : OpenMessage)
-      → Statuses before (Open message) core.status status
+      → Statuses before (Some message) core.status status
       → Related Spent before (faulted asked code time message (card core queue ram))
       (faulted asked code time message (card (with_status status core) queue' other))
   unfolding faulted closing with_status with_message
@@ -139,7 +138,7 @@ module _ {Spent : Block → Type 0} {before : Bool} (core : Core) (status : ℕ)
       }
 
   pub related_ended : (asked : Asked) (time : ℕ) (message : OpenMessage)
-      → Statuses before (Open message) core.status status
+      → Statuses before (Some message) core.status status
       → Related Spent before (ended asked time message (card core queue ram))
       (ended asked time message (card (with_status status core) queue' other))
   unfolding ended closing end_words replies with_switches with_status with_message
@@ -152,7 +151,7 @@ module _ {Spent : Block → Type 0} {before : Bool} (core : Core) (status : ℕ)
         cells = both_closed asked _ time message agree;
       }
 
-  related_opened : {message : Message} (word : Word) → (Spent core.table → ⊥)
+  related_opened : {message : Option OpenMessage} (word : Word) → (Spent core.table → ⊥)
       → Statuses before message core.status status
       → Related Spent (still_before before (opened_by (asked_of word.value)))
       (opening word (card core queue ram))

@@ -1,5 +1,6 @@
 -- Where two stretches meet: both messages have closed, or the next command closes what is open. The
 -- cards are related then, where those were that the stretches began from. Assumes nothing.
+use Rattle.std.proofs.Common.{None, Some}
 use mathlib.Core.Path.{◌≡◌, refl, sym, ap, subst, ◌∙◌}
 use mathlib.Core.Logic.{◌≢◌}
 use mathlib.Core.Bool.{Bool, true, false, cond}
@@ -12,7 +13,6 @@ use Rattle.bus.specs.Status.{without_error}
 use Rattle.card.specs.declared.place.Block.{Block}
 use Rattle.message.specs.declared.judge.WordAct.{WordAct}
 use Rattle.message.specs.declared.state.OpenMessage.{OpenMessage}
-use Rattle.message.specs.declared.state.Message.TheVariants.{Idle, Open}
 use Rattle.message.specs.Message.{further}
 use Rattle.message.specs.Asked.{asks}
 use Rattle.message.specs.Words.{own_command}
@@ -64,7 +64,7 @@ module _ (Spent : Block → Type 0) (start : Card) (message : OpenMessage) where
   record Superseding (command : Word) (here : Card) : Type 0 where
     left : Card
     span : Span Spent start message left
-    idle : left.core.message ≡ Idle
+    idle : left.core.message ≡ None
     is : step (word command) here ≡ opens command left
 
   supersedes : kind_of message.command ≡ Receive → Spent message.block
@@ -104,7 +104,7 @@ pub data Meet (Spent : Block → Type 0) (here there : Card) : List Event → Ty
       (step (word command) here) (step (word command) there)
       → Meet Spent here there (word command ∷ after)
 
-open_is_not_idle : {message : OpenMessage} → Open message ≡ Idle → ⊥
+open_is_not_idle : {message : OpenMessage} → Some message ≡ None → ⊥
 open_is_not_idle is = clash (cc)
 
 module _ {Spent : Block → Type 0} {before : Bool} (start start' : Card) (message : OpenMessage)
@@ -112,7 +112,7 @@ module _ {Spent : Block → Type 0} {before : Bool} (start start' : Card) (messa
   -- both messages have closed: the remembered statuses are the same but for the message error bit
   pub both_gone : {here there : Card}
       → Span Spent start message here → Span Spent start' message there
-      → here.core.message ≡ Idle → there.core.message ≡ Idle → Related Spent true here there
+      → here.core.message ≡ None → there.core.message ≡ None → Related Spent true here there
   unfolding with_message with_status
   both_gone (is_open stage second taken agree) span idle idle' = absurd (open_is_not_idle idle)
   both_gone (is_gone status but agree) (is_open stage second taken agree') idle idle' =
@@ -124,7 +124,7 @@ module _ {Spent : Block → Type 0} {before : Bool} (start start' : Card) (messa
       record {
         status = status';
         core =
-            ap (λ (core : Core). with_status status' (with_message Idle core)) related.core;
+            ap (λ (core : Core). with_status status' (with_message None core)) related.core;
         queue = same_closed related.queue (asks message) message;
         statuses = but_error asking_none (but ∙ statuses ∙ sym but');
         cells =

@@ -1,5 +1,6 @@
 -- A word that opens a message opens it on some card: the one that it meets, or what a superseded or
 -- dropped message leaves. Assumes nothing.
+use Rattle.std.proofs.Common.{None, Option, Some}
 use mathlib.Core.Path.{◌≡◌, refl}
 use mathlib.Core.Logic.{◌≢◌}
 use mathlib.Core.Bool.{Bool, true, false, cond}
@@ -16,8 +17,6 @@ use Rattle.message.specs.declared.judge.WordAct.TheVariants.{
   Drop,
 }
 use Rattle.message.specs.declared.state.OpenMessage.{OpenMessage}
-use Rattle.message.specs.declared.state.Message.{Message}
-use Rattle.message.specs.declared.state.Message.TheVariants.{Idle, Open}
 use Rattle.message.specs.Asked.{asks}
 use Rattle.message.specs.Words.{own_command, on_word}
 use Rattle.terminal.specs.State.{Card}
@@ -51,12 +50,12 @@ own_opens : (own : Bool) (command : Word) (old : Card)
 own_opens true command old opening is = record { left = old; is = is }
 own_opens false command old opening is = absurd (opening refl)
 
-met_opens : (message : Message) (command : Word) (old : Card)
+met_opens : (message : Option OpenMessage) (command : Word) (old : Card)
     → (word_met message command old).opened ≢ none
     → step (word command) old ≡ word_met message command old → Opening command old
-met_opens Idle command old opening is =
+met_opens None command old opening is =
     own_opens (own_command old.core.station old.core.flags command) command old opening is
-met_opens (Open message) command old opening is =
+met_opens (Some message) command old opening is =
     done_opens
     (on_word old.core.station old.core.flags (asks message) message command)
     message command old opening is

@@ -1,5 +1,6 @@
 -- The relation between two runs that go on with the same events, for any set of spent blocks: the
 -- second core is the first with another remembered status, and memories agree. Assumes nothing.
+use Rattle.std.proofs.Common.{None, Option, Some}
 use mathlib.Core.Path.{◌≡◌, refl, ap}
 use mathlib.Core.Bool.{Bool, true}
 use Prim.Native.Nat.{ℕ, ◌+◌}
@@ -9,10 +10,7 @@ use Rattle.bus.specs.Kind.{kind_of}
 use Rattle.bus.specs.Status.{without_error, with_error}
 use Rattle.card.specs.declared.place.Block.{Block}
 use Rattle.message.specs.declared.state.Stage.{Stage}
-use Rattle.message.specs.declared.state.Second.{Second}
 use Rattle.message.specs.declared.state.OpenMessage.{OpenMessage}
-use Rattle.message.specs.declared.state.Message.{Message}
-use Rattle.message.specs.declared.state.Message.TheVariants.{Idle, Open}
 use Rattle.message.specs.Message.{further, moved_message}
 use Rattle.terminal.specs.State.{Card, with_status}
 use Rattle.terminal.specs.Event.{Outcome}
@@ -28,46 +26,46 @@ pub data Asks : Kind → Type 0 where
   asks_last : Asks ModeLast
 
 -- nothing is open, or a message of such a command
-pub data Asking : Message → Type 0 where
-  asking_none : Asking Idle
-  asking : {message : OpenMessage} → Asks (kind_of message.command) → Asking (Open message)
+pub data Asking : Option OpenMessage → Type 0 where
+  asking_none : Asking None
+  asking : {message : OpenMessage} → Asks (kind_of message.command) → Asking (Some message)
 
 -- the same; or, before any other command opens a message, the same but for the message error bit
-pub data Statuses : Bool → Message → ℕ → ℕ → Type 0 where
-  equal : {before : Bool} {message : Message} {status : ℕ} → Statuses before message status status
-  but_error : {message : Message} {status other : ℕ} → Asking message
+pub data Statuses : Bool → Option OpenMessage → ℕ → ℕ → Type 0 where
+  equal : {before : Bool} {message : Option OpenMessage} {status : ℕ} → Statuses before message status status
+  but_error : {message : Option OpenMessage} {status other : ℕ} → Asking message
       → without_error status ≡ without_error other → Statuses true message status other
 
 -- in either case they are the same without the bit
-pub same_but_error : {before : Bool} {message : Message} {status other : ℕ}
+pub same_but_error : {before : Bool} {message : Option OpenMessage} {status other : ℕ}
     → Statuses before message status other → without_error status ≡ without_error other
 same_but_error equal = refl
 same_but_error (but_error asks same) = same
 
 -- a fault sets the bit in both
-pub statuses_faulted : {before : Bool} {message : Message} {status other : ℕ}
+pub statuses_faulted : {before : Bool} {message : Option OpenMessage} {status other : ℕ}
     → Statuses before message status other
-    → Statuses before Idle (with_error status) (with_error other)
+    → Statuses before None (with_error status) (with_error other)
 unfolding with_error
 statuses_faulted equal = equal
 statuses_faulted (but_error asks same) =
     but_error asking_none (ap (λ (status : ℕ). without_error (status + 1024)) same)
 
 -- a message closes, goes on, or hears of a table move
-pub statuses_idle : {before : Bool} {message : Message} {status other : ℕ}
-    → Statuses before message status other → Statuses before Idle status other
+pub statuses_idle : {before : Bool} {message : Option OpenMessage} {status other : ℕ}
+    → Statuses before message status other → Statuses before None status other
 statuses_idle equal = equal
 statuses_idle (but_error asks same) = but_error asking_none same
 
 pub statuses_further : {before : Bool} {message : OpenMessage} {status other : ℕ}
-    (stage : Stage) (second : Second) (taken : ℕ)
-    → Statuses before (Open message) status other
-    → Statuses before (Open (further stage second taken message)) status other
+    (stage : Stage) (second : Option ℕ) (taken : ℕ)
+    → Statuses before (Some message) status other
+    → Statuses before (Some (further stage second taken message)) status other
 unfolding further
 statuses_further stage second taken equal = equal
 statuses_further stage second taken (but_error (asking asks) same) = but_error (asking asks) same
 
-pub statuses_moved : {before : Bool} {message : Message} {status other : ℕ}
+pub statuses_moved : {before : Bool} {message : Option OpenMessage} {status other : ℕ}
     → Statuses before message status other
     → Statuses before (moved_message message) status other
 unfolding moved_message
@@ -104,7 +102,7 @@ related_alike related = record {
   cell = related.cells.cell;
 }
 
-pub record StillRelated (Spent : Block → Type 0) (before : Bool) (message : Message)
+pub record StillRelated (Spent : Block → Type 0) (before : Bool) (message : Option OpenMessage)
     (here there : Outcome) : Type 0 where
   pub answer : SameAnswer before message here.answer there.answer
   pub related : Related Spent (still_before before here.opened) here.card there.card

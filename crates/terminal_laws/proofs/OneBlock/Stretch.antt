@@ -1,5 +1,6 @@
 -- The stretch between: the data receive is open still, or has closed and its chain has moved on;
 -- and besides only cells of its block that a broken message costs have changed. Assumes nothing.
+use Rattle.std.proofs.Common.{None, Option, Some}
 use mathlib.Core.Path.{◌≡◌, refl}
 use mathlib.Core.Bool.{Bool, true, false, cond}
 use mathlib.Core.List.{List, [], ◌∷◌}
@@ -32,10 +33,7 @@ use Rattle.message.specs.declared.judge.SilenceAct.TheVariants.{
 }
 use Rattle.message.specs.declared.state.Stage.{Stage}
 use Rattle.message.specs.declared.state.Stage.TheVariants.{Data, SecondCommand, AwaitingStatus}
-use Rattle.message.specs.declared.state.Second.{Second}
-use Rattle.message.specs.declared.state.Second.TheVariants.{Command}
 use Rattle.message.specs.declared.state.OpenMessage.{OpenMessage}
-use Rattle.message.specs.declared.state.Message.TheVariants.{Idle, Open}
 use Rattle.message.specs.Message.{further}
 use Rattle.message.specs.Asked.{asked_by, asked_of, asks}
 use Rattle.message.specs.Words.{own_command, on_word}
@@ -85,19 +83,19 @@ linked_by message ram =
     linked message.moved message.block message.table (asks message).cell ram
 
 -- the message further on, and the message gone
-abbrev pub onward : Card → OpenMessage → Stage → Second → ℕ → List ℕ → Card
+abbrev pub onward : Card → OpenMessage → Stage → Option ℕ → ℕ → List ℕ → Card
 onward start message stage second taken ram =
-    card (with_message (Open (further stage second taken message)) start.core) start.queue ram
+    card (with_message (Some (further stage second taken message)) start.core) start.queue ram
 
 abbrev pub gone : Card → OpenMessage → ℕ → List ℕ → Card
 gone start message status ram =
-    card (with_status status (with_message Idle start.core))
+    card (with_status status (with_message None start.core))
     (closed_queue (asks message) message start.queue)
     ram
 
 -- the cards that the stretch can lead to from `start`, where the message is open
 pub data Span (Spent : Block → Type 0) (start : Card) (message : OpenMessage) : Card → Type 0 where
-  is_open : {ram : List ℕ} (stage : Stage) (second : Second) (taken : ℕ)
+  is_open : {ram : List ℕ} (stage : Stage) (second : Option ℕ) (taken : ℕ)
       → Agree Spent start.ram ram
       → Span Spent start message (onward start message stage second taken ram)
   is_gone : {ram : List ℕ} (status : ℕ)
@@ -109,7 +107,7 @@ module _ {Spent : Block → Type 0} (start : Card) (message : OpenMessage)
     (receives : kind_of message.command ≡ Receive) (spent : Spent message.block) where
   -- ---- the message goes on, or closes
 
-  module _ (stage : Stage) (second : Second) (taken : ℕ) (ram : List ℕ)
+  module _ (stage : Stage) (second : Option ℕ) (taken : ℕ) (ram : List ℕ)
       (agree : Agree Spent start.ram ram) where
     abbrev further_on_lem : OpenMessage
     further_on_lem = further stage second taken message
@@ -162,7 +160,7 @@ module _ {Spent : Block → Type 0} (start : Card) (message : OpenMessage)
         (agree_data message.block (the_cell taken) heard.value spent (bounded next refl) ram))
     span_word_done (Check next) heard bounded quiet = is_open Data second next agree
     span_word_done (TakeSecond value) heard bounded quiet =
-        is_open SecondCommand (Command value) taken agree
+        is_open SecondCommand (Some value) taken agree
     span_word_done TakeStatus heard bounded quiet = is_open Data second taken agree
     span_word_done (Fault code) heard bounded quiet = span_faulted code heard.time
     span_word_done Supersede heard bounded quiet =

@@ -1,5 +1,6 @@
 -- The common tail: two related runs that go on with the same events stay related, and every outcome
 -- is the same. For any set of spent blocks that are spared. Assumes nothing.
+use Rattle.std.proofs.Common.{None, Option, Some}
 use mathlib.Core.Path.{◌≡◌, refl, sym, subst}
 use mathlib.Core.Bool.{Bool, true, false, cond}
 use mathlib.Core.List.{List, [], ◌∷◌}
@@ -28,11 +29,7 @@ use Rattle.message.specs.declared.judge.SilenceAct.TheVariants.{
 }
 use Rattle.message.specs.declared.state.Stage.{Stage}
 use Rattle.message.specs.declared.state.Stage.TheVariants.{Data, SecondCommand, AwaitingStatus}
-use Rattle.message.specs.declared.state.Second.{Second}
-use Rattle.message.specs.declared.state.Second.TheVariants.{Command}
 use Rattle.message.specs.declared.state.OpenMessage.{OpenMessage}
-use Rattle.message.specs.declared.state.Message.{Message}
-use Rattle.message.specs.declared.state.Message.TheVariants.{Idle, Open}
 use Rattle.message.specs.Message.{further, moved_message}
 use Rattle.message.specs.Asked.{asks}
 use Rattle.message.specs.Words.{own_command, on_word}
@@ -106,7 +103,7 @@ module _ {Spent : Block → Type 0} {before : Bool} (core : Core) (status : ℕ)
 
   -- the cards after the event are those of another core, with memories that agree still; nothing
   -- comes back and nothing opens
-  still : (message : Message) (new : Core) (cells cells' : List ℕ)
+  still : (message : Option OpenMessage) (new : Core) (cells cells' : List ℕ)
       → Statuses before new.message new.status status → Agree Spent cells cells'
       → StillRelated Spent before message (quietly (card new queue cells))
       (quietly (card (with_status status new) queue' cells'))
@@ -128,36 +125,36 @@ module _ {Spent : Block → Type 0} {before : Bool} (core : Core) (status : ℕ)
   now =
       record { status = status; core = refl; queue = queues; statuses = statuses; cells = agree }
 
-  still_quietly : (message : Message)
+  still_quietly : (message : Option OpenMessage)
       → StillRelated Spent before message (quietly here) (quietly there)
   still_quietly message = still message core ram other statuses agree
 
   -- the open message goes on
-  still_going_on : (stage : Stage) (second : Second) (taken : ℕ) (message : OpenMessage)
-      → Statuses before (Open message) core.status status
-      → StillRelated Spent before (Open message)
+  still_going_on : (stage : Stage) (second : Option ℕ) (taken : ℕ) (message : OpenMessage)
+      → Statuses before (Some message) core.status status
+      → StillRelated Spent before (Some message)
       (goes_on (further stage second taken message) here)
       (goes_on (further stage second taken message) there)
   unfolding with_status with_message
   still_going_on stage second taken message remembered =
-      still (Open message) (with_message (Open (further stage second taken message)) core)
+      still (Some message) (with_message (Some (further stage second taken message)) core)
       ram other (statuses_further stage second taken remembered) agree
 
   -- each act of a word
   still_word_done : (act : WordAct) (message : OpenMessage) (heard : Word)
-      → Statuses before (Open message) core.status status
-      → StillRelated Spent before (Open message)
+      → Statuses before (Some message) core.status status
+      → StillRelated Spent before (Some message)
       (word_done act (asks message) message heard here)
       (word_done act (asks message) message heard there)
   unfolding word_done still_before with_status with_message faulted closing
-  still_word_done Ignore message heard remembered = still_quietly (Open message)
+  still_word_done Ignore message heard remembered = still_quietly (Some message)
   still_word_done (Store taken) message heard remembered =
-      still (Open message) (with_message (Open (further Data message.second taken message)) core)
+      still (Some message) (with_message (Some (further Data message.second taken message)) core)
       _ _ (statuses_further _ _ _ remembered) (both_cell _ _ _ agree)
   still_word_done (Check taken) message heard remembered =
       still_going_on Data message.second taken message remembered
   still_word_done (TakeSecond value) message heard remembered =
-      still_going_on SecondCommand (Command value) message.taken message remembered
+      still_going_on SecondCommand (Some value) message.taken message remembered
   still_word_done TakeStatus message heard remembered =
       still_going_on Data message.second message.taken message remembered
   still_word_done (Fault code) message heard remembered =
@@ -179,31 +176,31 @@ module _ {Spent : Block → Type 0} {before : Bool} (core : Core) (status : ℕ)
       record { answer = same; related = related_opening heard unspent now }
 
   still_own : (own : Bool) (heard : Word)
-      → StillRelated Spent before Idle (cond own (opens heard here) (quietly here))
+      → StillRelated Spent before None (cond own (opens heard here) (quietly here))
       (cond own (opens heard there) (quietly there))
   still_own true heard = record { answer = same; related = related_opening heard unspent now }
-  still_own false heard = still_quietly Idle
+  still_own false heard = still_quietly None
 
-  still_word : (message : Message) (heard : Word)
+  still_word : (message : Option OpenMessage) (heard : Word)
       → Statuses before message core.status status
       → StillRelated Spent before message (word_met message heard here)
       (word_met message heard there)
   unfolding with_status
-  still_word Idle heard remembered =
+  still_word None heard remembered =
       still_own (own_command core.station core.flags heard) heard
-  still_word (Open message) heard remembered =
+  still_word (Some message) heard remembered =
       still_word_done
       (on_word core.station core.flags (asks message) message heard)
       message heard remembered
 
   -- each act of a silence
   still_silence_done : (act : SilenceAct) (message : OpenMessage) (time : ℕ)
-      → Statuses before (Open message) core.status status
-      → StillRelated Spent before (Open message)
+      → Statuses before (Some message) core.status status
+      → StillRelated Spent before (Some message)
       (silence_done act (asks message) message time here)
       (silence_done act (asks message) message time there)
   unfolding silence_done still_before with_status with_message
-  still_silence_done IgnoreSilence message time remembered = still_quietly (Open message)
+  still_silence_done IgnoreSilence message time remembered = still_quietly (Some message)
   still_silence_done AwaitStatus message time remembered =
       still_going_on AwaitingStatus message.second message.taken message remembered
   still_silence_done (FaultSilence code) message time remembered =
@@ -221,12 +218,12 @@ module _ {Spent : Block → Type 0} {before : Bool} (core : Core) (status : ℕ)
             message remembered;
       }
 
-  still_silence : (message : Message) (line : Bool) (time : ℕ)
+  still_silence : (message : Option OpenMessage) (line : Bool) (time : ℕ)
       → Statuses before message core.status status
       → StillRelated Spent before message (silence_met message line time here)
       (silence_met message line time there)
-  still_silence Idle line time remembered = still_quietly Idle
-  still_silence (Open message) line time remembered =
+  still_silence None line time remembered = still_quietly None
+  still_silence (Some message) line time remembered =
       still_silence_done (on_silence (asks message) message line) message time remembered
 
   -- the oldest entry leaves the queue
@@ -279,7 +276,7 @@ module _ {Spent : Block → Type 0} {before : Bool} {here there : Card} where
       here.ram there.ram related.cells unspent related.statuses event)
 
 -- what the relation shows of an outcome
-pub still_same : {Spent : Block → Type 0} {before : Bool} (message : Message) (event : Event)
+pub still_same : {Spent : Block → Type 0} {before : Bool} (message : Option OpenMessage) (event : Event)
     (here there : Card)
     → ((status : ℕ) (block : Block) (count : ℕ)
     → (step event here).answer ≡ Replied (Words status block count) → Spent block → ⊥)

@@ -1,6 +1,7 @@
 -- One broken message costs one block: `one_block`, as `specs/OneBlock.antt` says it, and
 -- `one_block_related`, for any related cards on which a data receive is open and any set of spent
 -- blocks that its block is of, so that it serves again after a broken message. Assumes nothing.
+use Rattle.std.proofs.Common.{Option, Some}
 use mathlib.Core.Path.{◌≡◌, refl, sym, ap, subst, ◌∙◌}
 use mathlib.Core.Bool.{Bool, false}
 use mathlib.Core.List.{List, ◌∷◌}
@@ -9,8 +10,6 @@ use Rattle.bus.specs.declared.word.Word.{Word}
 use Rattle.bus.specs.Kind.{kind_of}
 use Rattle.card.specs.declared.place.Block.{Block}
 use Rattle.message.specs.declared.state.OpenMessage.{OpenMessage}
-use Rattle.message.specs.declared.state.Message.{Message}
-use Rattle.message.specs.declared.state.Message.TheVariants.{Open}
 use Rattle.message.specs.Message.{further}
 use Rattle.terminal.specs.declared.state.Core.{Core}
 use Rattle.terminal.specs.State.{Card, card, with_status, with_message}
@@ -35,25 +34,25 @@ use Rattle.terminal_laws.proofs.OneBlock.Opened.{word_opens}
 
 -- a stretch begins where the message is open
 begins : {Spent : Block → Type 0} (start : Card) (message : OpenMessage)
-    → start.core.message ≡ Open message → Span Spent start message start
+    → start.core.message ≡ Some message → Span Spent start message start
 unfolding with_message further
 begins {Spent} start message is =
     subst
-    (λ (held : Message). Span Spent start message
+    (λ (held : Option OpenMessage). Span Spent start message
     (card (with_message held start.core) start.queue start.ram))
     (sym is)
     (is_open message.stage message.second message.taken (agree_refl start.ram))
 
 module _ {Spent : Block → Type 0} {before : Bool} (start start' : Card) (message : OpenMessage)
     (related : Related Spent before start start') (one two after : List Event) where
-  pub one_block_related : start.core.message ≡ Open message
+  pub one_block_related : start.core.message ≡ Some message
       → kind_of message.command ≡ Receive → Spent message.block
       → Calm one start → Calm two start'
       → BothOver (run one start) (run two start') after → Spared Spent after (run one start)
       → SameAfter Spent after (run one start) (run two start')
   unfolding with_status
   one_block_related is receives spent calm calm' both_over spared =
-      let is' : start'.core.message ≡ Open message =
+      let is' : start'.core.message ≡ Some message =
       ap (λ (core : Core). core.message) related.core ∙ is in
       let span = span_run start message receives spent one calm (begins start message is) in
       let span' = span_run start' message receives spent two calm' (begins start' message is') in
@@ -78,10 +77,10 @@ one_block old command one two after broken =
     let opened = word_opens command old broken.opens in
     let left : Card = opened.left in
     let held : OpenMessage = opened_as command left.core left.ram in
-    let is : (step (word command) old).card.core.message ≡ Open held =
+    let is : (step (word command) old).card.core.message ≡ Some held =
     ap (λ (outcome : Outcome). outcome.card.core.message) opened.is in
     let start = (step (word command) old).card in
     one_block_related {before = false} start start held (related_self start) one two after is
     broken.receives
-    (subst (λ (message : Message). ThatBlock message held.block) (sym is) refl)
+    (subst (λ (message : Option OpenMessage). ThatBlock message held.block) (sym is) refl)
     broken.calm_one broken.calm_two broken.both_over broken.spared

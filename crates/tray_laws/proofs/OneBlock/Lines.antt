@@ -1,4 +1,5 @@
 -- Outcomes that are the same print lines that are the same. Assumes nothing.
+use Rattle.std.proofs.Common.{Option}
 use mathlib.Core.Path.{◌≡◌, refl, ap, subst}
 use mathlib.Core.Bool.{Bool}
 use mathlib.Core.List.{List, [], ◌∷◌}
@@ -7,7 +8,6 @@ use lib.ListN.{length, take, drop}
 use Rattle.card.specs.declared.place.Block.{Block}
 use Rattle.card.specs.Memory.{data_cells, card_blocks, the_cell, word_address}
 use Rattle.card.proofs.PartLaws.{same_part}
-use Rattle.message.specs.declared.state.Message.{Message}
 use Rattle.terminal.specs.declared.state.Reply.TheVariants.{Silent, Status, Words, Last}
 use Rattle.terminal.specs.declared.state.Answer.{Answer}
 use Rattle.terminal.specs.declared.state.Answer.TheVariants.{Replied, QueueWord}
@@ -31,6 +31,7 @@ use Rattle.tray_laws.specs.OneBlock.{
   last_but_error,
   LaterLines,
 }
+use Rattle.message.specs.declared.state.OpenMessage.{OpenMessage}
 
 -- the same answer, of two memories
 same_answer_line : (answer : Answer) (ram other : List ℕ) → length ram ≡ length other
@@ -46,7 +47,7 @@ same_answer_line (Replied (Words status block count)) ram other long words =
 same_answer_line (Replied (Last status last)) ram other long words = refl
 same_answer_line (QueueWord oldest) ram other long words = refl
 
-same_line : {before : Bool} {message : Message} {answer answer' : Answer} (ram other : List ℕ)
+same_line : {before : Bool} {message : Option OpenMessage} {answer answer' : Answer} (ram other : List ℕ)
     → length ram ≡ length other → SameAnswer before message answer answer'
     → ((status : ℕ) (block : Block) (count : ℕ) → answer ≡ Replied (Words status block count)
     → take count (drop (word_address block (the_cell 0)) ram)

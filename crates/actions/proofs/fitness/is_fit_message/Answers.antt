@@ -4,5 +4,5 @@ use borrow.Author.Rules.{rules}
 use Rattle.actions.proofs.FitnessLaws.{open_is_fit}
 use Rattle.actions.proofs.fitness.is_fit_message.Goals as goal
 
-pub returns-in-Open : goal.returns-in-Open
-returns-in-Open c = search (rules, open_is_fit)
+pub returns-in-Some : goal.returns-in-Some
+returns-in-Some c = search (rules, open_is_fit)

@@ -2,5 +2,5 @@
 -- Assumes nothing.
 use Rattle.actions.proofs.fitness.is_fit_second.Goals as goal
 
-pub returns-in-Command : goal.returns-in-Command
-returns-in-Command c = cc
+pub returns-in-Some : goal.returns-in-Some
+returns-in-Some c = cc

@@ -3,10 +3,10 @@
 use Rattle.message.specs.Message.{moved_message}
 use Rattle.message.proofs.state.moved_message.Goals as goal
 
-pub returns-in-Idle : goal.returns-in-Idle
+pub returns-in-None : goal.returns-in-None
 unfolding moved_message
-returns-in-Idle c = rw c.in-Idle.is
+returns-in-None c = rw c.in-None.is
 
-pub returns-in-Open : goal.returns-in-Open
+pub returns-in-Some : goal.returns-in-Some
 unfolding moved_message
-returns-in-Open c = rw c.in-Open.is
+returns-in-Some c = rw c.in-Some.is

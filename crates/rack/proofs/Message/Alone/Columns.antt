@@ -1,11 +1,11 @@
 -- The rows of one command: one word is given besides the data, no last status is due, and the data
 -- stand behind the command or behind the status. Assumes nothing.
+use Rattle.std.proofs.Common.{None}
 use mathlib.Core.Path.{◌≡◌, refl}
 use mathlib.Core.Logic.{◌≢◌}
 use mathlib.Core.Bool.{Bool, true, false}
 use mathlib.Core.List.{List}
 use Prim.Native.Nat.{ℕ, ◌+◌}
-use Rattle.message.specs.declared.state.Second.TheVariants.{Absent}
 use Rattle.terminal.specs.State.{Card}
 use Rattle.formats.specs.declared.row.Row.{Row}
 use Rattle.formats.specs.declared.row.Row.TheVariants.{
@@ -33,7 +33,7 @@ pub record OneCommand (order : Order) : Type 0 where
   pub given : (format_for order).given ≡ 1 + (format_for order).behind
   pub last : (format_for order).last ≡ false
   pub asks : asking_in order ≡ order.first
-  pub no_second : (value : ℕ) → second_given order.row value ≡ Absent
+  pub no_second : (value : ℕ) → second_given order.row value ≡ None
   pub takes : (terminal : Card) → taken order terminal ≡ taken_alone order.first terminal
   pub addressed : (terminals : List Card)
       → AllAddressed order.row order.first order.second terminals

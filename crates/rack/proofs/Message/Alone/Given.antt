@@ -1,5 +1,6 @@
 -- The first turn of a message of one command: its words are given, and each terminal that hears
 -- them takes the command or is as before. Assumes nothing.
+use Rattle.std.proofs.Common.{Option}
 use mathlib.Core.Path.{◌≡◌, ap, subst, ◌∙◌}
 use mathlib.Core.Logic.{◌≢◌}
 use mathlib.Core.Bool.{Bool}
@@ -8,7 +9,6 @@ use Prim.Native.Nat.{ℕ}
 use lib.ListN.{length}
 use Rattle.std.proofs.Common.{Option}
 use Rattle.bus.specs.Command.{is_broadcast}
-use Rattle.message.specs.declared.state.Second.{Second}
 use Rattle.message.specs.Asked.{asked_of}
 use Rattle.terminal.specs.State.{Card}
 use Rattle.formats.specs.declared.row.Row.TheVariants.{Between}
@@ -76,7 +76,7 @@ module _ (order : Order) (clock : ℕ → Stamps) (old : Rack) (asked : Asked or
       (rack (open_desk order old.desk) old.terminals)
   begins =
       message_begins order clock old asked.starts
-      ∙ ap (λ (second : Second). carry most_turns line clock
+      ∙ ap (λ (second : Option ℕ). carry most_turns line clock
       (Given (segment order.first second words) ∷ [])
       (rack (open_desk order old.desk) old.terminals)) (alone.no_second order.second)
 

@@ -1,12 +1,12 @@
 -- The turns of a message of one command without X: one terminal replies, the controller holds the
 -- reply behind the words given, and the terminals hear it without effect. Assumes nothing.
+use Rattle.std.proofs.Common.{None}
 use mathlib.Core.Path.{◌≡◌, refl, ap, sym, ◌∙◌}
 use mathlib.Core.Bool.{Bool, false}
 use mathlib.Core.List.{List, [], ◌∷◌}
 use Prim.Native.Nat.{ℕ}
 use lib.ListN.{length}
 use Rattle.bus.specs.Command.{address_of, is_broadcast}
-use Rattle.message.specs.declared.state.Second.TheVariants.{Absent}
 use Rattle.terminal.specs.State.{Card}
 use Rattle.terminal.specs.Event.{Outcome, quietly}
 use Rattle.exchange.specs.declared.order.Order.{Order}
@@ -75,7 +75,7 @@ module _ (order : Order) (clock : ℕ → Stamps) (old : Rack) (first : FirstTur
       first.different (first.addressed to_one))
 
   abbrev answer : Spoken
-  answer = Said (address_of command) (segment got.status Absent got.reply)
+  answer = Said (address_of command) (segment got.status None got.reply)
 
   abbrev waiting : Desk
   waiting = back_at (open_desk order old.desk) order at_first old.desk.ram
@@ -83,7 +83,7 @@ module _ (order : Order) (clock : ℕ → Stamps) (old : Rack) (first : FirstTur
   is_waiting : desk_turn line (clock first_turn) (said_first order old) (open_desk order old.desk)
       ≡ waiting
   is_waiting =
-      given_turn order old.desk (clock first_turn) (segment command Absent words)
+      given_turn order old.desk (clock first_turn) (segment command None words)
       ∙ rw (first.columns.status, no_x)
 
   -- ---- the second turn: the controller takes the reply

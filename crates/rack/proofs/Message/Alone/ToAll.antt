@@ -1,12 +1,12 @@
 -- A message of one command with X: nothing comes back, and the message is over behind the words
 -- given. Assumes nothing.
+use Rattle.std.proofs.Common.{None}
 use mathlib.Core.Path.{◌≡◌, refl, sym, subst, ◌∙◌}
 use mathlib.Core.Bool.{Bool, true, false}
 use mathlib.Core.List.{[]}
 use Prim.Native.Nat.{ℕ}
 use native.Mathlib.Omega.{arith}
 use Rattle.rules.proofs.Clash.{clash}
-use Rattle.message.specs.declared.state.Second.TheVariants.{Absent}
 use Rattle.terminal.specs.State.{Card}
 use Rattle.exchange.specs.declared.order.Order.{Order}
 use Rattle.exchange.specs.Order.{format_for}
@@ -46,7 +46,7 @@ module _ (order : Order) (clock : ℕ → Stamps) (old : Rack) (first : FirstTur
       ≡ over
   is_over =
       given_turn order old.desk (clock first_turn)
-      (segment order.first Absent (data_given order old.desk))
+      (segment order.first None (data_given order old.desk))
       ∙ rw (first.columns.status, to_all_lem)
 
   no_reply : replies_to line (clock first_turn) (said_first order old) old.terminals ≡ []

@@ -1,5 +1,6 @@
 -- What a command that is given alone makes of an idle terminal: it takes the command, or is as
 -- before. Assumes nothing.
+use Rattle.std.proofs.Common.{None, Some}
 use mathlib.Core.Path.{◌≡◌, refl, ap, sym, subst, ◌∙◌}
 use mathlib.Core.Bool.{Bool, true, false, cond}
 use mathlib.Core.List.{List}
@@ -8,7 +9,6 @@ use lib.ListN.{length}
 use Rattle.std.proofs.Common.{Some, None}
 use Rattle.rules.proofs.Clash.{clash}
 use Rattle.bus.specs.Command.{address_of, is_broadcast}
-use Rattle.message.specs.declared.state.Second.TheVariants.{Absent}
 use Rattle.message.specs.Asked.{asked_of}
 use Rattle.terminal.specs.State.{Card}
 use Rattle.terminal.specs.Event.{Outcome, quietly}
@@ -22,7 +22,7 @@ use Rattle.rack.proofs.Terminal.OneCommand.{command_is_taken}
 use Rattle.rack.proofs.Lists.Speaker.{SilentElsewhere}
 
 abbrev pub given_alone : ℕ → List ℕ → Spoken
-given_alone first words = Given (segment first Absent words)
+given_alone first words = Given (segment first None words)
 
 module _ (line : Bool) (stamps : Stamps) (first : ℕ) (words : List ℕ) where
   abbrev after : Card → Outcome
@@ -42,7 +42,7 @@ module _ (line : Bool) (stamps : Stamps) (first : ℕ) (words : List ℕ) where
           took own (command_is_taken line stamps first words old fit full idle own ready)
       by_own false strange ready =
           stays strange
-          (quiet_at_given line stamps old idle.rest.idle (segment first Absent words)
+          (quiet_at_given line stamps old idle.rest.idle (segment first None words)
           (record { first = strange; second = tt }))
 
   -- idle again either way

@@ -1,5 +1,6 @@
 -- What the commands of a transfer make of an idle terminal: the transmitter has replied, a receiver
 -- waits for the words, any other is as before. Assumes nothing.
+use Rattle.std.proofs.Common.{None, Some}
 use mathlib.Core.Path.{◌≡◌, refl, ap, ◌∙◌}
 use mathlib.Core.Bool.{Bool, true, false, cond}
 use mathlib.Core.List.{[]}
@@ -7,7 +8,6 @@ use Prim.Native.Nat.{ℕ}
 use Rattle.std.proofs.Common.{Some, None}
 use Rattle.rules.proofs.Clash.{clash}
 use Rattle.bus.specs.Command.{address_of, is_broadcast}
-use Rattle.message.specs.declared.state.Second.TheVariants.{Command}
 use Rattle.terminal.specs.State.{Card}
 use Rattle.terminal.specs.Event.{Outcome, quietly}
 use Rattle.formats.specs.declared.row.Row.TheVariants.{Between}
@@ -47,7 +47,7 @@ module _ (line : Bool) (stamps : Stamps) (first second : ℕ) where
           waits strange own (receiver_waits line stamps first second fit old idle strange own ready)
       by_own false strange false strange_first ready =
           stays strange strange_first
-          (quiet_at_given line stamps old idle.rest.idle (segment first (Command second) [])
+          (quiet_at_given line stamps old idle.rest.idle (segment first (Some second) [])
           (record { first = strange_first; second = strange }))
 
   pub begun_station : (old : Card) → Begun old

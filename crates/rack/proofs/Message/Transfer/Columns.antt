@@ -1,11 +1,11 @@
 -- The row of two commands: both are given, the second asks for the reply, and the data stand behind
 -- the first status. Assumes nothing.
+use Rattle.std.proofs.Common.{Some}
 use mathlib.Core.Path.{◌≡◌, refl, sym, subst}
 use mathlib.Core.Bool.{Bool, true, not}
 use mathlib.Core.List.{List}
 use Prim.Native.Nat.{ℕ}
 use Rattle.bus.specs.Command.{words_of}
-use Rattle.message.specs.declared.state.Second.TheVariants.{Command}
 use Rattle.terminal.specs.State.{Card}
 use Rattle.formats.specs.declared.row.Row.{Row}
 use Rattle.formats.specs.declared.row.Row.TheVariants.{Between}
@@ -27,7 +27,7 @@ pub record TwoCommands (order : Order) : Type 0 where
       ≡ columns 2 0 true (words_of order.second) (not order.broadcast)
   pub asks : asking_in order ≡ order.second
   pub at_3 : data_cell order.row ≡ 3
-  pub second : second_given order.row order.second ≡ Command order.second
+  pub second : second_given order.row order.second ≡ Some order.second
   pub takes : (terminal : Card)
       → taken order terminal ≡ taken_of Between order.first order.second terminal
   pub fit : FitOrder order → FitTransfer order.first order.second

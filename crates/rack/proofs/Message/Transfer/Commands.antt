@@ -1,5 +1,6 @@
 -- The first turn of a transfer: the commands, what each terminal makes of them, and the reply of
 -- the transmitter, which the controller awaits. Assumes nothing.
+use Rattle.std.proofs.Common.{Option, Some}
 use mathlib.Core.Path.{◌≡◌, refl, ap, subst, ◌∙◌}
 use mathlib.Core.Bool.{Bool}
 use mathlib.Core.List.{List, [], ◌∷◌}
@@ -8,8 +9,6 @@ use native.Mathlib.Omega.{arith}
 use lib.ListN.{drop_of_length-le}
 use Rattle.std.proofs.Common.{Option}
 use Rattle.bus.specs.Command.{address_of, is_broadcast}
-use Rattle.message.specs.declared.state.Second.{Second}
-use Rattle.message.specs.declared.state.Second.TheVariants.{Command}
 use Rattle.terminal.specs.State.{Card}
 use Rattle.formats.specs.declared.row.Format.{Format}
 use Rattle.formats.specs.declared.row.Row.TheVariants.{Between}
@@ -102,11 +101,11 @@ module _ (order : Order) (clock : ℕ → Stamps) (old : Rack) (asked : Asked or
       (rack (open_desk order old.desk) old.terminals)
   begins =
       message_begins order clock old asked.starts
-      ∙ ap (λ (any : Second). carry most_turns line clock
+      ∙ ap (λ (any : Option ℕ). carry most_turns line clock
       (Given (segment order.first any (data_given order old.desk)) ∷ [])
       (rack (open_desk order old.desk) old.terminals)) two.second
       ∙ ap (λ (any : List ℕ). carry most_turns line clock
-      (Given (segment order.first (Command order.second) any) ∷ [])
+      (Given (segment order.first (Some order.second) any) ∷ [])
       (rack (open_desk order old.desk) old.terminals)) no_data
 
   each_begun : Each (BegunFirst order clock old) old.terminals
@@ -136,7 +135,7 @@ module _ (order : Order) (clock : ℕ → Stamps) (old : Rack) (asked : Asked or
   is_awaiting : desk_turn line stamps (said_first order) (open_desk order old.desk)
       ≡ awaiting_desk order old.desk
   is_awaiting =
-      given_turn order old.desk stamps (segment order.first (Command order.second) [])
+      given_turn order old.desk stamps (segment order.first (Some order.second) [])
       ∙ rw two.format
 
   pub first_turn_lem : FirstTurn order clock old

@@ -1,5 +1,6 @@
 -- What the transmitter's reply makes of a terminal that has heard the commands of a transfer: the
 -- receiver takes the words, any other hears them without effect. Assumes nothing.
+use Rattle.std.proofs.Common.{None}
 use mathlib.Core.Path.{◌≡◌, refl, ap, sym, subst, ◌∙◌}
 use mathlib.Core.Bool.{Bool, true, false}
 use mathlib.Core.List.{List, []}
@@ -7,7 +8,6 @@ use Prim.Native.Nat.{ℕ, ◌≤◌}
 use lib.ListN.{length}
 use Rattle.bus.specs.Limits.{last_station}
 use Rattle.bus.specs.Command.{address_of, is_broadcast}
-use Rattle.message.specs.declared.state.Second.TheVariants.{Absent}
 use Rattle.message.specs.Asked.{asked_of}
 use Rattle.terminal.specs.State.{Card}
 use Rattle.terminal.specs.Event.{Outcome, quietly}
@@ -21,7 +21,7 @@ use Rattle.rack.proofs.Message.Transfer.Begun.{Begun, sends, waits, stays}
 
 -- the transmitter's reply
 abbrev pub reply_to : ℕ → ℕ → List ℕ → Spoken
-reply_to second status reply = Said (address_of second) (segment status Absent reply)
+reply_to second status reply = Said (address_of second) (segment status None reply)
 
 module _ (line : Bool) (stamps later : Stamps) (first second status : ℕ) (reply : List ℕ) where
   abbrev after : Card → Outcome

@@ -1,5 +1,6 @@
 -- The receiver's reply: behind the words of a transfer without X the terminal of the first command
 -- says its status, and no other terminal says anything. Assumes nothing.
+use Rattle.std.proofs.Common.{None}
 use mathlib.Core.Path.{◌≡◌, ap, sym, subst, ◌∙◌}
 use mathlib.Core.Bool.{Bool, true, false}
 use mathlib.Core.List.{List, [], ◌∷◌}
@@ -9,7 +10,6 @@ use lib.ListN.{drop_of_length-le}
 use Rattle.rules.proofs.Clash.{clash}
 use Rattle.bus.specs.Limits.{last_station}
 use Rattle.bus.specs.Command.{address_of, is_broadcast}
-use Rattle.message.specs.declared.state.Second.TheVariants.{Absent}
 use Rattle.message.specs.Asked.{asked_by, asked_of}
 use Rattle.terminal.specs.State.{Card}
 use Rattle.terminal.specs.Event.{Outcome}
@@ -47,7 +47,7 @@ pub record LastReply (order : Order) (clock : ℕ → Stamps) (old : Rack)
       (said_second order clock old first)
       (turn_all (line_in old.desk.state.control) (clock first_turn) (said_first order)
       old.terminals)
-      ≡ Said (address_of order.first) (segment last Absent []) ∷ []
+      ≡ Said (address_of order.first) (segment last None []) ∷ []
   pub home : address_of last ≡ address_of order.first
   pub low : address_of order.first ≤ last_station
 
@@ -67,7 +67,7 @@ module _ (order : Order) (clock : ℕ → Stamps) (old : Rack) (first : FirstTur
     last : ℕ
     says : said_after
         (turn_of line (clock second_turn) (said_second order clock old first) terminal)
-        ≡ Said terminal.core.station (segment last Absent [])
+        ≡ Said terminal.core.station (segment last None [])
     home : address_of last ≡ terminal.core.station
     low : terminal.core.station ≤ last_station
 
@@ -90,10 +90,10 @@ module _ (order : Order) (clock : ℕ → Stamps) (old : Rack) (first : FirstTur
           last = last;
           says =
               took.said to_one
-              ∙ ap (λ (words : List ℕ). Said terminal.core.station (segment last Absent words))
+              ∙ ap (λ (words : List ℕ). Said terminal.core.station (segment last None words))
               (drop_of_length-le (sent_by order.first terminal (behind_words terminal).card)
               {i = 0} (omega (arith, took.sent_long, sends_none)))
-              ∙ ap (λ (station : ℕ). Said station (segment last Absent [])) (sym keeps);
+              ∙ ap (λ (station : ℕ). Said station (segment last None [])) (sym keeps);
           home = took.idle.status ∙ took.station ∙ sym keeps;
           low =
               subst (λ (station : ℕ). station ≤ last_station) (sym keeps)
@@ -149,7 +149,7 @@ module _ (order : Order) (clock : ℕ → Stamps) (old : Rack) (first : FirstTur
         heard =
             found.heard
             ∙ ap (λ (any : Spoken). with_reply any []) reply.says
-            ∙ ap (λ (station : ℕ). Said station (segment reply.last Absent []) ∷ [])
+            ∙ ap (λ (station : ℕ). Said station (segment reply.last None []) ∷ [])
             found.is;
         home = reply.home ∙ found.is;
         low = subst (λ (station : ℕ). station ≤ last_station) found.is reply.low;

@@ -1,5 +1,6 @@
 -- The third turn of a transfer without X: the receiver's status ends the message, and the terminals
 -- hear it without effect. Assumes nothing.
+use Rattle.std.proofs.Common.{None}
 use mathlib.Core.Path.{◌≡◌, refl, ap, ◌∙◌}
 use mathlib.Core.Bool.{Bool, false, cond, not, ◌||◌}
 use mathlib.Core.List.{List, [], ◌∷◌}
@@ -7,7 +8,6 @@ use Prim.Native.Nat.{ℕ}
 use lib.ListN.{length}
 use Rattle.bus.specs.Command.{address_of}
 use Rattle.card.specs.Memory.{the_cell, with_cell}
-use Rattle.message.specs.declared.state.Second.TheVariants.{Absent}
 use Rattle.terminal.specs.State.{Card}
 use Rattle.terminal.specs.Event.{Outcome, quietly}
 use Rattle.formats.specs.Row.{last_cell}
@@ -73,7 +73,7 @@ module _ (order : Order) (clock : ℕ → Stamps) (old : Rack) (first : FirstTur
   answer = said_second order clock old first
 
   abbrev last : Spoken
-  last = Said (address_of order.first) (segment third.last Absent [])
+  last = Said (address_of order.first) (segment third.last None [])
 
   -- the terminals behind the commands, and behind the words
   abbrev then : List Card

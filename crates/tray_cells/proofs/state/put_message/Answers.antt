@@ -4,8 +4,8 @@ use borrow.Author.Rules.{rules}
 use Rattle.tray_cells.proofs.StateLaws.{message_idle, message_open}
 use Rattle.tray_cells.proofs.state.put_message.Goals as goal
 
-pub returns-in-Idle : goal.returns-in-Idle
-returns-in-Idle c = search (rules, message_idle, message_open)
+pub returns-in-None : goal.returns-in-None
+returns-in-None c = search (rules, message_idle, message_open)
 
-pub returns-in-Open : goal.returns-in-Open
-returns-in-Open c = search (rules, message_idle, message_open)
+pub returns-in-Some : goal.returns-in-Some
+returns-in-Some c = search (rules, message_idle, message_open)

@@ -4,8 +4,8 @@ use borrow.Author.Rules.{rules}
 use Rattle.tray_cells.proofs.StateLaws.{no_second, second_command}
 use Rattle.tray_cells.proofs.state.put_second.Goals as goal
 
-pub returns-in-Absent : goal.returns-in-Absent
-returns-in-Absent c = search (rules, no_second, second_command)
+pub returns-in-None : goal.returns-in-None
+returns-in-None c = search (rules, no_second, second_command)
 
-pub returns-in-Command : goal.returns-in-Command
-returns-in-Command c = search (rules, no_second, second_command)
+pub returns-in-Some : goal.returns-in-Some
+returns-in-Some c = search (rules, no_second, second_command)
