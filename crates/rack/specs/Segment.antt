@@ -1,7 +1,21 @@
 -- A segment: what is said at once, by whom, and the words that the others hear. On a sound bus all
 -- are sound, the first unjoined and the others joined; commands and statuses have command sync.
 -- Definitions only. Assumes nothing.
-use Rattle.std.specs.Prelude.{Bool, true, false, cond, List, [], ◌∷◌, ℕ, suc, eqb, None, Option, Some}
+use Rattle.std.specs.Prelude.{
+  Bool,
+  true,
+  false,
+  cond,
+  List,
+  [],
+  ◌∷◌,
+  ℕ,
+  suc,
+  eqb,
+  None,
+  Option,
+  Some,
+}
 use Rattle.bus.specs.declared.word.Word.{Word}
 
 -- a command or a status, perhaps a second command, and data words

@@ -48,7 +48,8 @@ module _ (line joined : Bool) (command time : ℕ) (old : Card) where
   pub own_opens : old.core.message ≡ None → is_own command old ≡ true
       → (step (word heard) old).card ≡ opened_card
   unfolding step word_step own_command
-  own_opens idle own = ap (λ (met : Option OpenMessage). (word_met met heard old).card) idle ∙ rw own
+  own_opens idle own =
+      ap (λ (met : Option OpenMessage). (word_met met heard old).card) idle ∙ rw own
 
   -- the message of a legal command is in its data
   pub opened_in_data : (asked_of command).illegal ≡ false → message_of.stage ≡ Data

@@ -59,7 +59,8 @@ module _ (old : Card) (idle : old.core.message ≡ None) where
   quiet_word : (heard : Word) → own_command old.core.station old.core.flags heard ≡ false
       → step (word heard) old ≡ quietly old
   unfolding step word_step
-  quiet_word heard strange = ap (λ (met : Option OpenMessage). word_met met heard old) idle ∙ rw strange
+  quiet_word heard strange =
+      ap (λ (met : Option OpenMessage). word_met met heard old) idle ∙ rw strange
 
   pub quiet_command : (line joined : Bool) (value time : ℕ) → is_own value old ≡ false
       → step (word (command_word line joined value time)) old ≡ quietly old
