@@ -27,7 +27,6 @@ use Rattle.terminal.specs.Event.{
 use Rattle.terminal.specs.Machine.{step}
 use Rattle.terminal.specs.Fitness.{fit_card}
 use Rattle.actions.specs.declared.Terminal.{Terminal}
-use Rattle.actions.specs.declared.Done.{Done}
 
 -- what an action leaves: its refusal number, 0 for none, its answer, terminal and memory
 pub record After : Type 0 where
@@ -106,6 +105,11 @@ terminal_at_setup station table flags = terminal (core_at_setup station table fl
 -- no terminal: of no station, so that every action refuses it with 4
 abbrev pub no_terminal : Terminal
 no_terminal = terminal_at_setup all_stations (the_block 0) 0
+
+-- what setup leaves: its refusal number, 0 for none, and a terminal
+pub record Done : Type 0 where
+  pub refusal : ℕ
+  pub terminal : Terminal
 
 abbrev pub done : ℕ → Terminal → Done
 done refusal given = record { refusal = refusal; terminal = given }

@@ -16,24 +16,18 @@ use terminal::state::Core;
 fn is_fit_second(second: Option<u16>, station: u16, command: u16, receive: bool) -> bool
     ensures { result ≡ fit_second second station command receive }
 {
-    match second {
-        None => true,
-        Some(value) => {
-            let taken = judge::is_second(station, command, value);
-            receive & taken
-        }
-    }
+    second.is_none_or(|value| receive & judge::is_second(station, command, value))
 }
 
 // A stage that the command can reach.
 fn is_fit_stage(stage: Stage, illegal: bool, second: Option<u16>, taken: u16) -> bool
     ensures { result ≡ fit_stage stage illegal second taken }
 {
-    let present = second.is_some();
     match stage {
         Stage::Data => !illegal,
-        Stage::SecondCommand => !illegal & present & (taken == 0),
-        Stage::AwaitingStatus => !illegal & present & (taken == 0),
+        Stage::SecondCommand | Stage::AwaitingStatus => {
+            !illegal & second.is_some() & (taken == 0)
+        }
         Stage::Skipping => illegal,
     }
 }
@@ -42,48 +36,37 @@ fn is_fit_open(blocks: u16, station: u16, message: OpenMessage) -> bool
     ensures { result ≡ fit_open blocks station message }
 {
     let address = command::address(message.command);
-    let broadcast = command::is_broadcast(message.command);
     let asked = message.asks();
-    let second = message.second;
-    let stage = message.stage;
-    let fit_second = is_fit_second(second, station, message.command, asked.receive);
-    let fit_stage = is_fit_stage(stage, asked.illegal, second, message.taken);
-    ((address == station) | broadcast)
+    ((address == station) | command::is_broadcast(message.command))
         & (message.block.0 < blocks)
         & (message.table.0 < blocks)
         & (message.taken <= asked.takes)
-        & fit_second
-        & fit_stage
+        & is_fit_second(message.second, station, message.command, asked.receive)
+        & is_fit_stage(message.stage, asked.illegal, message.second, message.taken)
 }
 
 // On a card of so many blocks.
 fn is_fit_message(blocks: u16, message: Option<OpenMessage>, station: u16) -> bool
     ensures { result ≡ fit_message blocks message station }
 {
-    match message {
-        None => true,
-        Some(held) => is_fit_open(blocks, station, held),
-    }
+    message.is_none_or(|held| is_fit_open(blocks, station, held))
 }
 
 // Station, table and flags as setup takes them, and the open message, on a card of so many blocks.
-fn is_fit_core(blocks: u16, core: Core) -> bool
-    ensures { result ≡ fit_core blocks core }
+fn is_fit_core(blocks: u16, core: &Core) -> bool
+    ensures { result ≡ fit_core blocks core.now }
 {
-    let message = core.message;
-    let fit = is_fit_message(blocks, message, core.station);
-    (core.station <= LAST_STATION) & (core.table.0 < blocks) & (core.flags <= ALL_FLAGS) & fit
+    (core.station <= LAST_STATION)
+        & (core.table.0 < blocks)
+        & (core.flags <= ALL_FLAGS)
+        & is_fit_message(blocks, core.message, core.station)
 }
 
 impl Terminal {
     // Whether every part is as document 01's refusal 4 asks, all 256 queue places included.
-    pub fn is_fit(self) -> bool
-        ensures { result ≡ fit_terminal self }
+    pub fn is_fit(&self) -> bool
+        ensures { result ≡ fit_terminal self.now }
     {
-        let core = self.core;
-        let queue = self.queue;
-        let fit_core = is_fit_core(CARD_BLOCKS, core);
-        let fit_queue = queue.is_fit(CARD_BLOCKS);
-        fit_core & fit_queue
+        is_fit_core(CARD_BLOCKS, &self.core) & self.queue.is_fit(CARD_BLOCKS)
     }
 }

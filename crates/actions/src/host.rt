@@ -1,5 +1,7 @@
 // What the host does.
 ghost use Rattle.std.specs.Prelude.{◌≡◌};
+ghost use Rattle.std.specs.Result.{result_unwrap_or};
+ghost use Rattle.refusals.specs.Number.{refused};
 ghost use Rattle.terminal.specs.declared.state.Reply.TheVariants.{Silent};
 ghost use Rattle.terminal.specs.Event.{replied, queue_word};
 ghost use Rattle.actions.specs.Actions.{
@@ -12,100 +14,52 @@ ghost use Rattle.actions.specs.Actions.{
   over,
 };
 
-use crate::{Done, QueueAnswered, Terminal};
+use crate::Terminal;
 use bus::limits::ALL_FLAGS;
 use card::host;
 use card::place::{Block, CARD_BLOCKS};
+use refusals::Refusal;
 
 impl Terminal {
     // The host writes 1 to 64 words from an address on.
-    pub fn host_write(self, ram: &mut [u16], address: u16, words: &[u16]) -> Done
-        ensures { after result.refusal (replied Silent)
-            (over result.terminal ram.new)
-            ≡ host_write_action address words.now
-            (over self ram.old) }
+    pub fn host_write(&self, ram: &mut [u16], address: u16, words: &[u16]) -> Result<(), Refusal>
+        ensures { after (refused result) (replied Silent) (over self.now ram.new)
+            ≡ host_write_action address words.now (over self.now ram.old) }
     {
-        let refusal = self.memory_refusal(ram.len(), true);
-        if refusal != 0 {
-            return Done {
-                refusal: refusal,
-                terminal: self,
-            };
-        }
-        match host::write(ram, CARD_BLOCKS, address, words) {
-            Ok(()) => Done {
-                refusal: 0,
-                terminal: self,
-            },
-            Err(refusal) => Done {
-                refusal: u8::from(refusal),
-                terminal: self,
-            },
-        }
+        self.memory_refusal(ram.len(), true)?;
+        host::write(ram, CARD_BLOCKS, address, words)
     }
 
     // The oldest block leaves the queue.
-    pub fn read_queue(mut self) -> QueueAnswered
-        ensures { after result.refusal (queue_word result.word)
-            (alone result.terminal) ≡ read_queue_action (alone self) }
+    pub fn read_queue(&mut self) -> Result<u16, Refusal>
+        ensures { after (refused result) (queue_word (result_unwrap_or result 0))
+            (alone self.new)
+            ≡ read_queue_action (alone self.old) }
     {
         if !self.is_fit() {
-            return QueueAnswered {
-                refusal: 4,
-                word: 0,
-                terminal: self,
-            };
+            return Err(Refusal::State);
         }
-        let old = self.queue;
-        let taken = old.read();
-        let queue = taken.queue;
-        self.queue = queue;
-        QueueAnswered {
-            refusal: 0,
-            word: taken.word,
-            terminal: self,
-        }
+        let word = self.queue.read();
+        Ok(word)
     }
 
     // The host sets the table block.
-    pub fn move_table(mut self, table: u16) -> Done
-        ensures { after result.refusal (replied Silent) (alone result.terminal)
-            ≡ move_table_action table (alone self) }
+    pub fn move_table(&mut self, table: u16) -> Result<(), Refusal>
+        ensures { after (refused result) (replied Silent) (alone self.new)
+            ≡ move_table_action table (alone self.old) }
     {
-        let refusal = self.refusal(table < CARD_BLOCKS, 3);
-        if refusal != 0 {
-            return Done {
-                refusal: refusal,
-                terminal: self,
-            };
-        }
-        let old = self.core;
-        let core = old.move_table(Block(table));
-        self.core = core;
-        Done {
-            refusal: 0,
-            terminal: self,
-        }
+        self.refusal(table < CARD_BLOCKS, Refusal::TableBlock)?;
+        self.core.move_table(Block(table));
+        Ok(())
     }
 
     // The host writes the flags.
-    pub fn set_flags(mut self, flags: u16) -> Done
-        ensures { after result.refusal (replied Silent) (alone result.terminal)
-            ≡ set_flags_action flags (alone self) }
+    pub fn set_flags(&mut self, flags: u16) -> Result<(), Refusal>
+        ensures { after (refused result) (replied Silent) (alone self.new)
+            ≡ set_flags_action flags (alone self.old) }
     {
-        let refusal = self.refusal(flags <= ALL_FLAGS, 8);
-        if refusal != 0 {
-            return Done {
-                refusal: refusal,
-                terminal: self,
-            };
-        }
-        let old = self.core;
-        let core = old.set_flags(flags);
-        self.core = core;
-        Done {
-            refusal: 0,
-            terminal: self,
-        }
+        self.refusal(flags <= ALL_FLAGS, Refusal::Value)?;
+        self.core.set_flags(flags);
+        Ok(())
     }
 }

@@ -23,15 +23,18 @@ use Rattle.std.proofs.Common.{
   ne_eqb,
 }
 use native.Mathlib.Decide.{ℕ_discrete, dec_lt}
-use borrow.Author.Tests.{not-true, not-false}
+use Rattle.refusals.specs.declared.Refusal.{Refusal}
+use Rattle.refusals.specs.Number.{number_of}
 use Rattle.recording.specs.declared.seen.Seen.{Seen}
-use Rattle.recording.specs.declared.reading.Reading.{Reading as SharedReading}
 use Rattle.recording.specs.Bytes.{bytes_left, byte_at, word_at}
 use Rattle.recording.specs.Reading as recording
+use Rattle.recording.proofs.ReadingLaws.{not_none}
 use Rattle.desk.specs.declared.field.Field.TheVariants.{Setup, Start}
-use Rattle.desk.specs.declared.reading.Reading.{Reading}
-use Rattle.desk.specs.declared.reading.Reading.TheVariants.{Taken, End, Refused}
 use Rattle.desk.specs.Reading.{
+  Reading,
+  Taken,
+  End,
+  Refused,
   setup_tag,
   start_tag,
   own_refusal,
@@ -176,91 +179,67 @@ module _ (bytes : List ℕ) (place : ℕ) (seen : Seen) where
     left_some : bytes_left bytes place ≡ 0 → ⊥
     left_some none = omega arith
 
-    module _ (number : ℕ) where
-      module _ (setup : byte_at bytes place ≡ setup_tag)
-          (is : number ≡ own_refusal bytes place 4 (not seen.setup)) where
-        pub setup_refused : (number ≡ 0 → ⊥) → Refused number ≡ read_at bytes place seen
-        unfolding read_at own_at
-        setup_refused other =
-            rw (
-              ne_eqb (bytes_left bytes place) 0 left_some,
-              eq-eqb (byte_at bytes place) setup_tag setup,
-              ← is,
-              ne_eqb number 0 other,
-            )
+    some_left : eqb (bytes_left bytes place) 0 ≡ false
+    some_left = ne_eqb (bytes_left bytes place) 0 left_some
 
-        pub setup_taken : (control count next : ℕ) → number ≡ 0
-            → control ≡ byte_at bytes (place + 3) * 256 + byte_at bytes (place + 4)
-            → count ≡ byte_at bytes (place + 5) * 256 + byte_at bytes (place + 6)
-            → next ≡ place + 7
-            → Taken (Setup control count) next ≡ read_at bytes place seen
-        unfolding read_at own_at
-        setup_taken control count next none is_control is_count is_next =
-            let four : place + 4 ≡ place + 3 + 1 = omega arith in
-            let six : place + 6 ≡ place + 5 + 1 = omega arith in
-            let seven : place + 3 + 4 ≡ next = omega arith in
-            rw (
-              ne_eqb (bytes_left bytes place) 0 left_some,
-              eq-eqb (byte_at bytes place) setup_tag setup,
-              ← is,
-              eq-eqb number 0 none,
-              is_control,
-              is_count,
-              four,
-              six,
-              seven,
-            )
+    module _ (setup : byte_at bytes place ≡ setup_tag) where
+      pub setup_refused : (refusal : Refusal)
+          → number_of refusal ≡ own_refusal bytes place 4 (not seen.setup)
+          → Refused (number_of refusal) ≡ read_at bytes place seen
+      unfolding read_at own_at
+      setup_refused refusal is =
+          rw (some_left, setup, ← is, ne_eqb (number_of refusal) 0 (not_none refusal))
 
-      module _ (start : byte_at bytes place ≡ start_tag)
-          (is : number ≡ own_refusal bytes place 0 seen.setup) where
-        pub start_refused : (number ≡ 0 → ⊥) → Refused number ≡ read_at bytes place seen
-        unfolding read_at own_at
-        start_refused other =
-            rw (
-              ne_eqb (bytes_left bytes place) 0 left_some,
-              start,
-              ← is,
-              ne_eqb number 0 other,
-            )
+      pub setup_taken : (control count : ℕ)
+          → own_refusal bytes place 4 (not seen.setup) ≡ 0
+          → control ≡ byte_at bytes (place + 3) * 256 + byte_at bytes (place + 4)
+          → count ≡ byte_at bytes (place + 5) * 256 + byte_at bytes (place + 6)
+          → Taken (Setup control count) (place + 7) ≡ read_at bytes place seen
+      unfolding read_at own_at
+      setup_taken control count none is_control is_count =
+          let four : place + 4 ≡ place + 3 + 1 = omega arith in
+          let six : place + 6 ≡ place + 5 + 1 = omega arith in
+          let seven : place + 3 + 4 ≡ place + 7 = omega arith in
+          rw (some_left, setup, none, is_control, is_count, four, six, seven)
 
-        pub start_taken : (next : ℕ) → number ≡ 0 → next ≡ place + 3
-            → Taken Start next ≡ read_at bytes place seen
-        unfolding read_at own_at
-        start_taken next none is_next =
-            let three : place + 3 + 0 ≡ next = omega arith in
-            rw (
-              ne_eqb (bytes_left bytes place) 0 left_some,
-              start,
-              ← is,
-              eq-eqb number 0 none,
-              three,
-            )
+    module _ (start : byte_at bytes place ≡ start_tag) where
+      pub start_refused : (refusal : Refusal)
+          → number_of refusal ≡ own_refusal bytes place 0 seen.setup
+          → Refused (number_of refusal) ≡ read_at bytes place seen
+      unfolding read_at own_at
+      start_refused refusal is =
+          rw (some_left, start, ← is, ne_eqb (number_of refusal) 0 (not_none refusal))
+
+      pub start_taken : own_refusal bytes place 0 seen.setup ≡ 0
+          → Taken Start (place + 3) ≡ read_at bytes place seen
+      unfolding read_at own_at
+      start_taken none =
+          let three : place + 3 + 0 ≡ place + 3 = omega arith in
+          rw (some_left, start, none, three)
 
     module _ (no_setup : byte_at bytes place ≡ setup_tag → ⊥)
         (no_start : byte_at bytes place ≡ start_tag → ⊥) where
-      pub tag_unknown : not (is_shared (byte_at bytes place)) ≡ true
+      pub tag_unknown : is_shared (byte_at bytes place) ≡ false
           → Refused 6 ≡ read_at bytes place seen
       unfolding read_at
       tag_unknown other =
           rw (
-            ne_eqb (bytes_left bytes place) 0 left_some,
+            some_left,
             ne_eqb (byte_at bytes place) setup_tag no_setup,
             ne_eqb (byte_at bytes place) start_tag no_start,
-            not-true (is_shared (byte_at bytes place)) other,
+            other,
           )
 
-      pub tag_shared : (reading : Reading) (shared : SharedReading)
-          → not (is_shared (byte_at bytes place)) ≡ false
-          → shared ≡ recording.read_at bytes place seen → reading ≡ shared_as shared
+      pub tag_shared : (reading : Reading) → is_shared (byte_at bytes place) ≡ true
+          → reading ≡ shared_as (recording.read_at bytes place seen)
           → reading ≡ read_at bytes place seen
       unfolding read_at
-      tag_shared reading shared known is same =
+      tag_shared reading known same =
           rw (
-            ne_eqb (bytes_left bytes place) 0 left_some,
+            some_left,
             ne_eqb (byte_at bytes place) setup_tag no_setup,
             ne_eqb (byte_at bytes place) start_tag no_start,
-            not-false (is_shared (byte_at bytes place)) known,
-            ← is,
+            known,
           ) same
 
 pub ruleset readings = (

@@ -1,29 +1,8 @@
 -- What `take_row` leaves: the turns that are left lead where all of them led (`row_taken_lem`), by
 -- the law of every row: a data word that is wanted is a field that prints nothing, and the
 -- controller stores a row as so many words. Assumes nothing.
-use Rattle.std.proofs.Common.{Option, Some}
-use Rattle.std.proofs.Common.{
-  ◌≡◌,
-  ℕ,
-  ◌+◌,
-  ◌-◌,
-  ◌<◌,
-  ◌≤◌,
-  Bool,
-  true,
-  false,
-  eqb,
-  ◌≢◌,
-  List,
-  length,
-  sym,
-  refl,
-  ap,
-  ◌∙◌,
-  subst,
-  arith,
-  ne_eqb,
-}
+use Rattle.std.proofs.Common.{◌≡◌, ℕ, ◌+◌, ◌-◌, ◌*◌, ◌≤◌, Bool, true, false, eqb, ◌≢◌, List, length, sym, refl, ap, ◌∙◌, arith, ne_eqb}
+use Rattle.std.specs.Prelude.{Option, Some}
 use Rattle.bus.specs.declared.word.Word.{Word}
 use Rattle.bus.specs.DataWords.{values_of}
 use Rattle.card.specs.declared.place.Block.{Block}
@@ -52,18 +31,20 @@ use Rattle.controller.proofs.WantedWords.{
 use Rattle.rows.specs.declared.Row.{Row}
 use Rattle.rows.specs.declared.Taken.{Taken}
 use Rattle.rows.specs.Row.{marks_on, word_there, words_taken, RowLeft, row_left, row_taken}
+use Rattle.pieces.specs.LastLine.{counted}
+use Rattle.pieces.specs.AsCoded.Runner.{TurnsTaken}
 use Rattle.rows.specs.Turns.{Hearing}
 use Rattle.rows.proofs.FoundLaws.{marks_few, found_next, is_data_word, found_are_data}
 use Rattle.rows.proofs.TakenLaws.{found_few}
 use Rattle.rows.proofs.TakenLaws as rows
 use Rattle.rows.proofs.RowTurns.{nothing_taken, row_is_turns}
-use Rattle.desk.specs.declared.window.Passed.{Passed as HeldPassed}
+use Rattle.desk.specs.declared.run.Run.{Run as HeldRun}
 use Rattle.desk.specs.declared.field.Field.TheVariants.{Shared}
 use Rattle.desk.specs.declared.reading.Reading.TheVariants.{Taken as TakenField}
 use Rattle.desk.specs.Reading.{read_at}
 use Rattle.desk.specs.Deed.{shared_deed, deed_of}
 use Rattle.desk.specs.Run.{Run, taking, took_by, met_by, desk_course}
-use Rattle.desk.specs.AsCoded.Row.{passed_after, RowTaken}
+use Rattle.desk.specs.AsCoded.Held.{run_of}
 
 -- ---- a controller's run hears words
 
@@ -110,36 +91,34 @@ desk_hears seen after_setup =
 
 -- ---- a row is as many turns
 
-module _ (old : HeldPassed) (window ram ram' : List ℕ) (room most : ℕ) (wanted : Option Wanted)
-    (words : Wanted) (taken : Taken)
-    (is_wanted : wanted ≡ words_wanted old.run.controller)
+module _ (old : HeldRun) (window ram ram' : List ℕ) (at room most : ℕ)
+    (wanted : Option Wanted) (words : Wanted) (taken : Taken)
+    (is_wanted : wanted ≡ words_wanted old.controller)
     (is : wanted ≡ Some words)
     (is_taken_lem : row_left taken ram'
-    ≡ row_taken window old.at words.line old.run.seen.setup room most
+    ≡ row_taken window at words.line old.seen.setup room most
     (record { block = words.block; cell = words.cell; end = words.end }) ram) where
   abbrev row : Row
   row = record { block = words.block; cell = words.cell; end = words.end }
 
   abbrev found : List Word
-  found = words_taken window old.at words.line row
+  found = words_taken window at words.line row
 
-  told : WantedTold old.run.controller words
-  told = wanted_tells old.run.controller words (sym is ∙ is_wanted)
+  told : WantedTold old.controller words
+  told = wanted_tells old.controller words (sym is ∙ is_wanted)
 
   -- where no word was found nothing has changed
-  pub none_taken : taken.words ≡ 0 → RowTaken window room most old ram most old ram'
+  pub none_taken : taken.words ≡ 0
+      → TurnsTaken desk_course window room most (run_of old ram) at most (run_of old ram') at
   none_taken none =
       let same : ram' ≡ ram =
-      rows.none_taken window words.line old.run.seen.setup room most old.at row ram taken ram'
-      is_taken_lem none in
-      rw same record { same_stop = refl; same_put = refl; turns_taken = nothing_taken }
+      rows.none_taken window words.line old.seen.setup room most at row ram taken ram' is_taken_lem none in
+      rw same nothing_taken
 
   module _ (some : taken.words ≢ 0) where
-    tells : rows.SomeTaken window words.line old.run.seen.setup room most old.at row ram taken
-        ram'
+    tells : rows.SomeTaken window words.line old.seen.setup room most at row ram taken ram'
     tells =
-        rows.some_taken window words.line old.run.seen.setup room most old.at row ram taken ram'
-        is_taken_lem some
+        rows.some_taken window words.line old.seen.setup room most at row ram taken ram' is_taken_lem some
 
     as_many : taken.words ≡ length found
     as_many = ap (λ (any : RowLeft). any.taken.words) tells.is_row
@@ -147,47 +126,32 @@ module _ (old : HeldPassed) (window ram ram' : List ℕ) (room most : ℕ) (want
     -- as many can be counted
     pub words_fit : words.taken + taken.words ≤ 65535
     words_fit =
-        told_fits old.run.controller words told ram taken.words
-        (omega (arith, as_many, found_few window words.line row old.at))
+        told_fits old.controller words told ram taken.words
+        (omega (arith, as_many, found_few window words.line row at))
 
     -- the controller has stored the words that are found
-    as_row : desk (with_taken (words.taken + taken.words) old.run.controller) ram'
-        ≡ words_step found (desk old.run.controller ram)
+    as_row : desk (with_taken (words.taken + taken.words) old.controller) ram'
+        ≡ words_step found (desk old.controller ram)
     as_row =
-        ap (λ (any : RowLeft). desk (with_taken (words.taken + any.taken.words) old.run.controller)
+        ap (λ (any : RowLeft). desk (with_taken (words.taken + any.taken.words) old.controller)
         any.ram) tells.is_row
-        ∙ ap (λ (any : Block). desk (with_taken (words.taken + length found) old.run.controller)
+        ∙ ap (λ (any : Block). desk (with_taken (words.taken + length found) old.controller)
         (with_cells ram any words.cell (values_of found))) told.same_block
-        ∙ wanted_row_is_words old.run.controller words told ram found
-        (found_are_data window words.line (words.end - words.cell) old.at)
-        (found_few window words.line row old.at)
+        ∙ wanted_row_is_words old.controller words told ram found
+        (found_are_data window words.line (words.end - words.cell) at) (found_few window words.line row at)
 
-    behind_row : RowTaken window room most old ram taken.left
-        (passed_after old words.taken taken) ram'
-    unfolding passed_after
-    behind_row =
-        record {
-          same_stop = refl;
-          same_put = refl;
-          turns_taken =
-              row_is_turns (desk_hears old.run.seen tells.able.after_setup) window words.line row
-              old.run.seen.setup room most old.at ram ram' taken is_taken_lem some
-              (desk old.run.controller ram) _ old.run.fields old.run.offset
-              (told_wants old.run.controller words told ram) as_row;
+    pub row_taken_lem : (new : HeldRun)
+        → new
+        ≡ record {
+          controller = with_taken (words.taken + taken.words) old.controller;
+          seen = old.seen;
+          fields = counted (old.fields + taken.words);
+          offset = counted (old.offset + 10 * taken.words);
         }
-
-    pub row_taken_lem : (new : HeldPassed) → new ≡ passed_after old words.taken taken
-        → RowTaken window room most old ram taken.left new ram'
+        → TurnsTaken desk_course window room most (run_of old ram) at taken.left (run_of new ram')
+        taken.at
     row_taken_lem new is_new =
-        subst (λ (any : HeldPassed). RowTaken window room most old ram taken.left any ram')
-        (sym is_new) behind_row
-
--- what the record tells, for `search` and `omega`
-module _ {window ram ram' : List ℕ} {room most left : ℕ} {old new : HeldPassed}
-    (taken : RowTaken window room most old ram left new ram') where
-  pub turn_left : 0 < most → 1 ≤ left
-  turn_left some = omega (arith, taken.turns_taken.some_left some)
-
-  pub fewer_left : 0 < most → left - 1 < most
-  fewer_left some =
-      omega (arith, taken.turns_taken.some_left some, taken.turns_taken.fewer)
+        rw is_new
+        (row_is_turns (desk_hears old.seen tells.able.after_setup) window words.line row old.seen.setup
+        room most at ram ram' taken is_taken_lem some (desk old.controller ram) _ old.fields
+        old.offset (told_wants old.controller words told ram) as_row)

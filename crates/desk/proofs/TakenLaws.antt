@@ -11,21 +11,24 @@ use Rattle.std.proofs.Common.{
   false,
   not,
   eqb,
+  Option,
+  Some,
+  Result,
+  Ok,
   List,
   length,
   sym,
   refl,
-  ◌∙◌,
   subst,
   true≢false,
   arith,
   eqb-true,
 }
 use Rattle.rules.proofs.Choices.{by_test}
+use Rattle.refusals.specs.declared.Refusal.{Refusal}
 use Rattle.recording.specs.declared.field.Field.{Field as SharedField}
 use Rattle.recording.specs.declared.seen.Seen.{Seen}
-use Rattle.recording.specs.declared.reading.Reading.{Reading as SharedReading}
-use Rattle.recording.specs.declared.reading.Reading.TheVariants as shared
+use Rattle.recording.specs.Reading.{Reading as SharedReading}
 use Rattle.recording.specs.Bytes.{bytes_left, byte_at}
 use Rattle.recording.specs.Reading as recording
 use Rattle.recording.proofs.TakenLaws.{taken_within}
@@ -35,9 +38,11 @@ use Rattle.recording.proofs.WaitingLaws.{few_at_the_end, few_at_a_refusal}
 use Rattle.pieces.specs.Course.{may_go_on}
 use Rattle.desk.specs.declared.field.Field.{Field}
 use Rattle.desk.specs.declared.field.Field.TheVariants.{Setup, Start, Shared}
-use Rattle.desk.specs.declared.reading.Reading.{Reading}
-use Rattle.desk.specs.declared.reading.Reading.TheVariants.{Taken, End, Refused}
 use Rattle.desk.specs.Reading.{
+  Reading,
+  Taken,
+  End,
+  Refused,
   setup_tag,
   start_tag,
   own_refusal,
@@ -45,7 +50,9 @@ use Rattle.desk.specs.Reading.{
   is_shared,
   shared_as,
   read_at,
+  reading,
 }
+use Rattle.desk.specs.declared.reading.Taken.{Taken as FieldTaken}
 use Rattle.desk.specs.AsCoded.Held.{WordsThere, WasRead}
 use Rattle.desk.proofs.ReadingLaws.{own_whole, own_waits}
 
@@ -66,7 +73,7 @@ module _ (bytes : List ℕ) (place : ℕ) (seen : Seen) where
     a_setup : {control count next : ℕ} → Within next → Tells (Taken (Setup control count) next)
     a_start : {next : ℕ} → Within next → Tells (Taken Start next)
     a_shared : {field : SharedField} {next : ℕ} → Within next
-        → recording.read_at bytes place seen ≡ shared.Taken field next
+        → recording.read_at bytes place seen ≡ recording.Taken field next
         → Tells (Taken (Shared field) next)
 
   own_within : (size : ℕ) (due : Bool) → eqb (own_refusal bytes place size due) 0 ≡ true
@@ -89,13 +96,13 @@ module _ (bytes : List ℕ) (place : ℕ) (seen : Seen) where
 
   shared_tells : (reading : SharedReading) → recording.read_at bytes place seen ≡ reading
       → Tells (shared_as reading)
-  shared_tells (shared.Taken field next) is =
+  shared_tells (recording.Taken field next) is =
       let within = taken_within bytes place seen is in
       a_shared
       (record { moves_on = within.moves_on; ends_inside = within.ends_inside })
       is
-  shared_tells shared.End is = the_end (few_at_the_end bytes place seen is)
-  shared_tells (shared.Refused number named) is =
+  shared_tells recording.End is = the_end (few_at_the_end bytes place seen is)
+  shared_tells (recording.Refused number named) is =
       a_refusal number (few_at_a_refusal bytes place seen is)
 
   pub reading_tells : Tells (read_at bytes place seen)
@@ -132,20 +139,22 @@ module _ (bytes : List ℕ) (place : ℕ) (seen : Seen) where
   read_within is = within_of (taken_tells is)
 
   shared_of : {field : SharedField} {next : ℕ} → Tells (Taken (Shared field) next)
-      → recording.read_at bytes place seen ≡ shared.Taken field next
+      → recording.read_at bytes place seen ≡ recording.Taken field next
   shared_of (a_shared within is) = is
 
   -- one of document 01's fields was read as there
   pub read_shared : {field : SharedField} {next : ℕ}
       → read_at bytes place seen ≡ Taken (Shared field) next
-      → recording.read_at bytes place seen ≡ shared.Taken field next
+      → recording.read_at bytes place seen ≡ recording.Taken field next
   read_shared is = shared_of (taken_tells is)
 
-  pub reads_on : (reading : Reading) (told : Field) (next : ℕ)
-      → reading ≡ read_at bytes place seen → reading ≡ Taken told next
-      → WasRead bytes told place next
-  reads_on reading told next is_reading is =
-      let taken : read_at bytes place seen ≡ Taken told next = sym is_reading ∙ is in
+  pub reads_on : (answer : Result (Option FieldTaken) Refusal) (found : Option FieldTaken)
+      (told : FieldTaken)
+      → reading answer ≡ read_at bytes place seen → answer ≡ Ok found → found ≡ Some told
+      → WasRead bytes told.field place told.next
+  reads_on answer found told is_reading is some =
+      let taken : read_at bytes place seen ≡ Taken told.field told.next =
+      rw (is, some) at (sym is_reading) in
       record {
         words =
             record {

@@ -4,21 +4,15 @@ use Rattle.std.proofs.Common.{
   ℕ,
   ◌+◌,
   ◌-◌,
-  ◌%◌,
-  ◌^◌,
-  ◌<◌,
-  ◌≤◌,
   ◌≢◌,
-  Bool,
+  eqb,
+  List,
   Option,
   Some,
   None,
-  eqb,
-  List,
   Result,
   Ok,
   Err,
-  length,
   sym,
   refl,
   ap,
@@ -29,31 +23,27 @@ use Rattle.rules.proofs.Choices.{by_test}
 use Rattle.refusals.specs.declared.Refusal.{Refusal}
 use Rattle.refusals.specs.Number.{number_of, refused}
 use Rattle.refusals.proofs.NumberLaws.{some_refused}
-use Rattle.recording.specs.declared.seen.Seen.{Seen}
 use Rattle.recording.specs.Value.{Valued, valued_at}
 use Rattle.recording.specs.Value as shared
 use Rattle.formats.specs.declared.code.Coded.{Coded}
 use Rattle.formats.specs.Code.{coded_by}
-use Rattle.lines.specs.Written.{put, line_room, line_written}
-use Rattle.pieces.specs.declared.stop.Stop.{Stop}
-use Rattle.pieces.specs.declared.stop.Stop.TheVariants.{Going, Full}
+use Rattle.lines.specs.Written.{put, line_written}
+use Rattle.pieces.specs.LastLine.{counted}
 use Rattle.pieces.specs.Course.{may_go_on}
-use Rattle.pieces.specs.AsCoded.Window as pieces
-use Rattle.pieces.proofs.TurnLaws as general
+use Rattle.pieces.specs.AsCoded.Runner.{FieldLeft, field_left, field_run}
 use Rattle.controller.specs.declared.state.Controller.{Controller}
 use Rattle.controller.specs.Control.{code_in}
 use Rattle.controller.specs.State.{Desk, desk}
-use Rattle.controller.specs.Start.{Started, may_start, starting_by, start_step}
+use Rattle.controller.specs.Start.{Started, may_start, starting, starting_by, start_step}
 use Rattle.desk.specs.declared.field.Field.{Field}
 use Rattle.desk.specs.declared.field.Field.TheVariants.{Setup, Start, Shared}
-use Rattle.desk.specs.declared.reading.Reading.{Reading}
-use Rattle.desk.specs.declared.reading.Reading.TheVariants.{Taken, End, Refused}
+use Rattle.desk.specs.declared.reading.Taken.{Taken as FieldTaken}
 use Rattle.desk.specs.declared.deed.Answer.{Answer}
-use Rattle.desk.specs.declared.window.Passed.{Passed as HeldPassed}
+use Rattle.desk.specs.declared.run.Run.{Run as HeldRun}
 use Rattle.desk.specs.Reading.{read_at, seen_after}
 use Rattle.desk.specs.Deed.{Done, done, shared_deed, deed_of, answer_line}
 use Rattle.desk.specs.Run.{Run, taking, took_by, met_by, desk_course}
-use Rattle.desk.specs.AsCoded.Held.{run_of, passed_of, answer_in}
+use Rattle.desk.specs.AsCoded.Held.{run_of}
 
 -- ---- what is refused changes nothing
 
@@ -111,130 +101,77 @@ refused_by_14 bytes Start old = start_by_14 old
 refused_by_14 bytes (Shared field) old =
     rw (shared_not_refused (valued_at bytes field) old)
 
--- ---- a field that was read
+-- ---- what stands at a place, as the code takes it
 
-module _ (ran : HeldPassed) (ram out window : List ℕ) (last : Bool) (told : Field) (next : ℕ)
-    (outcome : Result Answer Refusal) (left : Controller) (ram' : List ℕ)
-    (is_left : done (refused outcome) (answer_in outcome) (desk left ram')
-    ≡ deed_of window told (desk ran.run.controller ram)) where
-  abbrev old : pieces.Passed Run
-  old = passed_of ran ram out
+module _ (old : HeldRun) (ram window out : List ℕ) (at into : ℕ)
+    (found : Result (Option FieldTaken) Refusal)
+    (is_reading : reading found ≡ read_at window at old.seen) where
+  abbrev met : FieldLeft Run
+  met = field_run (desk_course.meets (run_of old ram) window at) (run_of old ram) out into
 
-  abbrev deed : Done
-  deed = deed_of window told (desk ran.run.controller ram)
+  module _ (perhaps : Option FieldTaken) (told : FieldTaken) (is : found ≡ Ok perhaps)
+      (is_some : perhaps ≡ Some told) (outcome : Result Answer Refusal) (left : Controller)
+      (ram' : List ℕ)
+      (is_left : done (refused outcome) (answer_in outcome) (desk left ram')
+      ≡ deed_of window told.field (desk old.controller ram)) where
+    abbrev deed : Done
+    deed = deed_of window told.field (desk old.controller ram)
 
-  abbrev passes : pieces.Passed Run
-  passes =
-      pieces.passing desk_course (took_by told ran.at next deed (run_of ran.run ram)) last old
-
-  pub field_taken : (answer : Answer) (out' : List ℕ) (put' fields offset : ℕ) (seen : Seen)
-      → outcome ≡ Ok answer
-      → put put' out' ≡ line_written out ran.put (answer_line ram' answer)
-      → seen ≡ seen_after told ran.run.seen
-      → fields ≡ (ran.run.fields + 1) % 2 ^ 64
-      → offset ≡ (ran.run.offset + (next - ran.at)) % 2 ^ 64
-      → passed_of (record {
-        run =
-            record {
-              controller = left;
-              seen = seen;
-              fields = fields;
-              offset = offset;
-            };
-        at = next;
-        put = put';
-        stop = Going;
-      }) ram' out'
-      ≡ passes
-  unfolding pieces.passing took_by taking
-  field_taken answer out' put' fields offset seen is is_put is_seen is_fields is_offset =
-      rw (
-        ← is_left,
-        is,
-        ← is_put,
-        is_seen,
-        is_fields,
-        is_offset,
-      )
-
-  pub field_refused : (refusal : Refusal) (number : ℕ) (end : HeldPassed) (put' : ℕ) (stop : Stop)
-      (out' : List ℕ)
-      → outcome ≡ Err refusal → number ≡ number_of refusal
-      → pieces.stopped (put put' out') stop
-      ≡ pieces.stopped_at number last ran.run.fields ran.run.offset out ran.put
-      → end ≡ record { run = ran.run; at = ran.at; put = put'; stop = stop }
-      → passed_of end ram' out' ≡ passes
-  unfolding pieces.passing took_by desk_course
-  field_refused refusal number end put' stop out' is is_number is_stopped is_end =
-      let told_so : number ≡ deed.refusal =
-      is_number ∙ sym (ap (λ (any : Result Answer Refusal). refused any) is)
-      ∙ ap (λ (any : Done). any.refusal) is_left in
-      let other : number ≢ 0 = λ none. some_refused (Some refusal) refl (sym is_number ∙ none) in
-      let kept : deed.desk ≡ desk ran.run.controller ram =
-      refused_changes_nothing window told (desk ran.run.controller ram)
-      (λ none. other (told_so ∙ none)) in
-      let same : ram' ≡ ram =
-      ap (λ (any : Done). any.desk.ram) is_left ∙ ap (λ (any : Desk). any.ram) kept in
-      rw (
-        is_end,
-        same,
-        ← told_so,
-        ne_eqb number 0 other,
-        ← is_stopped,
-      )
-
-pub ruleset field_passes = (field_taken, field_refused)
-
--- ---- a turn
-
-module _ (ran : HeldPassed) (ram out window : List ℕ) (last : Bool) (room : ℕ)
-    (is_room : room ≡ length out - ran.put) where
-  abbrev before : pieces.Passed Run
-  before = passed_of ran ram out
-
-  abbrev turned : pieces.Passed Run
-  turned = pieces.turn desk_course window last before
-
-  pub turn_full : (left : HeldPassed) → room < line_room
-      → left ≡ record { run = ran.run; at = ran.at; put = ran.put; stop = Full }
-      → passed_of left ram out ≡ turned
-  turn_full left short is_left =
-      rw is_left (general.turn_full desk_course window last before (rw is_room at short))
-
-  module _ (reading : Reading) (enough : line_room ≤ room)
-      (is_reading : reading ≡ read_at window ran.at ran.run.seen) where
-    turn_by : pieces.passing desk_course
-        (met_by reading window ran.at (run_of ran.run ram)) last before
-        ≡ turned
-    unfolding desk_course
-    turn_by =
-        general.turn_by desk_course window last before (rw is_room at enough)
-        (ap (λ (any : Reading). met_by any window ran.at before.run) (sym is_reading))
-
-    pub turn_takes : (told : Field) (next : ℕ) (new : pieces.Passed Run)
-        → reading ≡ Taken told next
+    pub field_taken : (answer : Answer) (out' : List ℕ) (into' : ℕ) (new : HeldRun)
+        → outcome ≡ Ok answer
+        → put into' out' ≡ line_written out into (answer_line ram' answer)
         → new
-        ≡ pieces.passing desk_course
-        (took_by told ran.at next (deed_of window told (desk ran.run.controller ram))
-        (run_of ran.run ram)) last before
-        → new ≡ turned
-    unfolding met_by
-    turn_takes told next new is is_new = rw (← turn_by, is) is_new
+        ≡ record {
+          controller = left;
+          seen = seen_after told.field old.seen;
+          fields = counted (old.fields + 1);
+          offset = counted (old.offset + (told.next - at));
+        }
+        → field_left (Ok (Some (record { next = told.next; put = into' }))) (run_of new ram') out'
+        ≡ met
+    unfolding field_run desk_course met_by took_by taking
+    field_taken answer out' into' new taken is_put is_new =
+        rw (
+          ← is_reading,
+          is,
+          is_some,
+          ← is_left,
+          taken,
+          ← is_put,
+          is_new,
+        )
 
-    module _ (left : HeldPassed) (put' : ℕ) (stop : Stop) (out' : List ℕ)
-        (is_left : left ≡ record { run = ran.run; at = ran.at; put = put'; stop = stop }) where
-      pub turn_ends : reading ≡ End
-          → pieces.stopped (put put' out') stop
-          ≡ pieces.stopped_at 0 last ran.run.fields ran.run.offset out ran.put
-          → passed_of left ram out' ≡ turned
-      unfolding pieces.passing met_by desk_course
-      turn_ends is is_stopped = rw (← turn_by, is, is_left, ← is_stopped)
+    pub field_refused : (refusal : Refusal) (number : ℕ) → outcome ≡ Err refusal
+        → number ≡ number_of refusal
+        → field_left (Err number) (run_of (record old { controller = left }) ram') out ≡ met
+    unfolding field_run desk_course met_by took_by
+    field_refused refusal number is_refused is_number =
+        let told_so : number ≡ deed.refusal =
+        is_number ∙ sym (ap (λ (any : Result Answer Refusal). refused any) is_refused)
+        ∙ ap (λ (any : Done). any.refusal) is_left in
+        let other : number ≢ 0 = λ none.
+        some_refused (Some refusal) refl (sym is_number ∙ none) in
+        let kept : desk left ram' ≡ desk old.controller ram =
+        ap (λ (any : Done). any.desk) is_left
+        ∙ refused_changes_nothing window told.field (desk old.controller ram)
+        (λ none. other (told_so ∙ none)) in
+        rw (
+          kept,
+          ← is_reading,
+          is,
+          is_some,
+          ← told_so,
+          ne_eqb number 0 other,
+        )
 
-      pub turn_refuses : (number : ℕ) → reading ≡ Refused number
-          → pieces.stopped (put put' out') stop
-          ≡ pieces.stopped_at number last ran.run.fields ran.run.offset out ran.put
-          → passed_of left ram out' ≡ turned
-      unfolding pieces.passing met_by desk_course
-      turn_refuses number is is_stopped = rw (← turn_by, is, is_left, ← is_stopped)
+  pub end_met : (perhaps : Option FieldTaken) → found ≡ Ok perhaps → perhaps ≡ None
+      → field_left (Ok None) (run_of old ram) out ≡ met
+  unfolding field_run desk_course met_by
+  end_met perhaps is none = rw (← is_reading, is, none)
 
-pub ruleset turning = (turn_full, turn_takes, turn_ends, turn_refuses)
+  pub refusal_met : (refusal : Refusal) (number : ℕ) → found ≡ Err refusal
+      → number ≡ number_of refusal → field_left (Err number) (run_of old ram) out ≡ met
+  unfolding field_run desk_course met_by
+  refusal_met refusal number is is_number = rw (← is_reading, is, is_number)
+
+pub ruleset meeting = (field_taken, field_refused, end_met, refusal_met)

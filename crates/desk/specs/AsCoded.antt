@@ -1,6 +1,4 @@
 -- How the code is cut, which no rule asks for. What it comes to is said by the definitions beside
 -- this folder, and proved.
 --     Held    what the code holds of a run
---     Row     a row of data words, taken at once
 pub mod Held
-pub mod Row

@@ -1,17 +1,38 @@
 -- What the reader finds at a place of a controller's recording. The controller has two tags of its
 -- own, 0A setup and 0B start; 02, 03 and 05 are document 01's, read as there; any other is unknown.
 -- Definitions only. Assumes nothing.
-use Rattle.std.specs.Prelude.{ℕ, ◌+◌, Bool, cond, not, ◌||◌, List, ◌==◌, nat_lt}
+use Rattle.std.specs.Prelude.{
+  ℕ,
+  ◌+◌,
+  Bool,
+  cond,
+  not,
+  ◌||◌,
+  Option,
+  Some,
+  None,
+  Result,
+  Ok,
+  Err,
+  List,
+  ◌==◌,
+  nat_lt,
+}
+use Rattle.refusals.specs.declared.Refusal.{Refusal}
+use Rattle.refusals.specs.Number.{number_of}
 use Rattle.recording.specs.declared.seen.Seen.{Seen}
-use Rattle.recording.specs.declared.reading.Reading.{Reading as SharedReading}
-use Rattle.recording.specs.declared.reading.Reading.TheVariants as shared
 use Rattle.recording.specs.Bytes.{bytes_left, byte_at, word_at}
 use Rattle.recording.specs.Reading as recording
 use Rattle.recording.specs.Seen.{setup_seen}
 use Rattle.desk.specs.declared.field.Field.{Field}
 use Rattle.desk.specs.declared.field.Field.TheVariants.{Setup, Start, Shared}
-use Rattle.desk.specs.declared.reading.Reading.{Reading}
-use Rattle.desk.specs.declared.reading.Reading.TheVariants.{Taken, End, Refused}
+use Rattle.desk.specs.declared.reading.Taken.{Taken as FieldTaken}
+
+-- a whole field and where the next one begins; or nothing is left; or the number of a refusal
+pub data Reading : Type 0 where
+  Taken : (field : Field) (next : ℕ) → Reading
+  End : Reading
+  Refused : (number : ℕ) → Reading
 
 -- ---- the controller's own fields
 
@@ -41,10 +62,10 @@ own_at bytes place size due field =
 abbrev pub is_shared : ℕ → Bool
 is_shared tag = tag == 2 || tag == 3 || tag == 5
 
-abbrev pub shared_as : SharedReading → Reading
-shared_as (shared.Taken field next) = Taken (Shared field) next
-shared_as shared.End = End
-shared_as (shared.Refused number place) = Refused number
+abbrev pub shared_as : recording.Reading → Reading
+shared_as (recording.Taken field next) = Taken (Shared field) next
+shared_as recording.End = End
+shared_as (recording.Refused number place) = Refused number
 
 -- ---- the reader
 
@@ -58,6 +79,12 @@ read_at bytes place seen =
     (cond (tag == start_tag) (own_at bytes place 0 seen.setup Start)
     (cond (is_shared tag) (shared_as (recording.read_at bytes place seen))
     (Refused 6))))  -- unknown tag
+
+-- what the code answers, as a reading
+abbrev pub reading : Result (Option FieldTaken) Refusal → Reading
+reading (Ok (Some taken)) = Taken taken.field taken.next
+reading (Ok None) = End
+reading (Err refusal) = Refused (number_of refusal)
 
 -- what has been seen after a field that is taken
 abbrev pub seen_after : Field → Seen → Seen

@@ -8,9 +8,7 @@ use Rattle.pieces.specs.Course.{Met, taken, at_end, refused, Course}
 use Rattle.pieces.specs.Whole.{whole_from}
 use Rattle.controller.specs.State.{Desk, desk, desk_words, at_setup}
 use Rattle.desk.specs.declared.field.Field.{Field}
-use Rattle.desk.specs.declared.reading.Reading.{Reading}
-use Rattle.desk.specs.declared.reading.Reading.TheVariants.{Taken, End, Refused}
-use Rattle.desk.specs.Reading.{read_at, seen_after}
+use Rattle.desk.specs.Reading.{Reading, Taken, End, Refused, read_at, seen_after}
 use Rattle.desk.specs.Deed.{Done, deed_of, answer_line}
 
 -- how far a run has come: what the reader has seen, the controller and its memory, how many fields

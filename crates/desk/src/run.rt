@@ -1,6 +1,5 @@
 // How far a run has come, and how it begins.
-ghost use Rattle.std.specs.Prelude.{◌≡◌};
-ghost use Rattle.desk.specs.AsCoded.Held.{held_at_start};
+ghost use Rattle.std.specs.Prelude.{◌≡◌, ◌+◌};
 
 use controller::state::Controller;
 use recording::Seen;
@@ -18,6 +17,9 @@ pub struct Run {
 }
 
 impl Run {
+    ghost use Rattle.pieces.specs.LastLine.{counted};
+    ghost use Rattle.desk.specs.AsCoded.Held.{held_at_start};
+
     // Before the first field: the controller may start nothing.
     #[tactic(auto, unfolding(crate::specs::AsCoded::Held::held_at_start))]
     pub fn at_start() -> Run
@@ -29,5 +31,16 @@ impl Run {
             fields: 0,
             offset: 0,
         }
+    }
+
+    // Counts fields that were taken, and their bytes.
+    pub(crate) fn pass(&mut self, fields: u64, bytes: u64)
+        ensures { self.new ≡ record self.old {
+          fields = counted (self.old.fields + fields);
+          offset = counted (self.old.offset + bytes);
+        } }
+    {
+        self.fields = self.fields.wrapping_add(fields);
+        self.offset = self.offset.wrapping_add(bytes);
     }
 }

@@ -10,8 +10,7 @@ use lib.Dec.{eqb, ltb}
 use lib.ListN.{length, length-append}
 use borrow.Author.Tests.{ne_eqb, eqb-true, eqb-false, ltb-false, le-ltb}
 use Rattle.rules.proofs.Stays.{Stays, same, open_way, same_way, either_way}
-use Rattle.recording.specs.declared.reading.Reading.{Reading as SharedReading}
-use Rattle.recording.specs.declared.reading.Reading.TheVariants as shared
+use Rattle.recording.specs.Reading.{Reading as SharedReading}
 use Rattle.recording.specs.declared.seen.Seen.{Seen}
 use Rattle.recording.specs.Bytes.{bytes_left, byte_at, word_at}
 use Rattle.recording.specs.Reading as recording
@@ -19,9 +18,11 @@ use Rattle.recording.specs.AsCoded.Pieces as recorded
 use Rattle.recording.proofs.MoreBytes.{byte_of_more, word_of_more, settled_stays}
 use Rattle.desk.specs.declared.field.Field.{Field}
 use Rattle.desk.specs.declared.field.Field.TheVariants.{Start}
-use Rattle.desk.specs.declared.reading.Reading.{Reading}
-use Rattle.desk.specs.declared.reading.Reading.TheVariants.{Taken, End, Refused}
 use Rattle.desk.specs.Reading.{
+  Reading,
+  Taken,
+  End,
+  Refused,
   setup_tag,
   start_tag,
   own_refusal,
@@ -43,9 +44,9 @@ is_settled_number number = not (eqb number 5)
 
 settled_as_shared : (reading : SharedReading)
     → is_settled (shared_as reading) ≡ recorded.is_settled reading
-settled_as_shared (shared.Taken field next) = refl
-settled_as_shared shared.End = refl
-settled_as_shared (shared.Refused number place) = refl
+settled_as_shared (recording.Taken field next) = refl
+settled_as_shared recording.End = refl
+settled_as_shared (recording.Refused number place) = refl
 
 module _ (front back : List ℕ) where
   abbrev left : ℕ

@@ -9,8 +9,7 @@ use native.Mathlib.Omega.{arith}
 use lib.Dec.{eqb}
 use lib.ListN.{drop, length-drop}
 use Rattle.rules.proofs.Choices.{choice_under}
-use Rattle.recording.specs.declared.reading.Reading.{Reading as SharedReading}
-use Rattle.recording.specs.declared.reading.Reading.TheVariants as shared
+use Rattle.recording.specs.Reading.{Reading as SharedReading}
 use Rattle.recording.specs.declared.seen.Seen.{Seen}
 use Rattle.recording.specs.Bytes.{bytes_left, byte_at}
 use Rattle.recording.specs.Reading as recording
@@ -21,9 +20,11 @@ use Rattle.pieces.specs.Course.{further_on}
 use Rattle.controller.specs.State.{Desk}
 use Rattle.desk.specs.declared.field.Field.{Field}
 use Rattle.desk.specs.declared.field.Field.TheVariants.{Setup, Start, Shared}
-use Rattle.desk.specs.declared.reading.Reading.{Reading}
-use Rattle.desk.specs.declared.reading.Reading.TheVariants.{Taken, End, Refused}
 use Rattle.desk.specs.Reading.{
+  Reading,
+  Taken,
+  End,
+  Refused,
   setup_tag,
   start_tag,
   own_refusal,
@@ -51,9 +52,9 @@ reading_from start (Refused number) = Refused number
 
 shared_from : (start : ℕ) (reading : SharedReading)
     → shared_as (shifted start reading) ≡ reading_from start (shared_as reading)
-shared_from start (shared.Taken field next) = refl
-shared_from start shared.End = refl
-shared_from start (shared.Refused number place) = refl
+shared_from start (recording.Taken field next) = refl
+shared_from start recording.End = refl
+shared_from start (recording.Refused number place) = refl
 
 module _ (start : ℕ) (bytes : List ℕ) where
   abbrev rest : List ℕ

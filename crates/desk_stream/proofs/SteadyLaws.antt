@@ -17,11 +17,9 @@ use Rattle.pieces.proofs.CourseLaws.{same_next, same_line}
 use Rattle.controller.specs.Given.{given_part}
 use Rattle.desk.specs.declared.field.Field.{Field}
 use Rattle.desk.specs.declared.field.Field.TheVariants.{Setup, Start, Shared}
-use Rattle.desk.specs.declared.reading.Reading.{Reading}
-use Rattle.desk.specs.declared.reading.Reading.TheVariants.{Taken, End, Refused}
 use Rattle.desk.specs.declared.deed.Answer.{Answer}
 use Rattle.desk.specs.declared.deed.Answer.TheVariants.{Gave, Ended}
-use Rattle.desk.specs.Reading.{read_at}
+use Rattle.desk.specs.Reading.{Reading, Taken, End, Refused, read_at}
 use Rattle.desk.specs.Deed.{Done, deed_of, answer_line}
 use Rattle.desk.specs.Run.{Run, taking, took_by, met_by, desk_course}
 use Rattle.desk.proofs.TakenLaws.{

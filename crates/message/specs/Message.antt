@@ -1,4 +1,5 @@
--- The open message, further on, and the host's setting of the table block. Definitions only. Assumes nothing.
+-- The open message, further on, and the host's setting of the table block. Definitions only.
+-- Assumes nothing.
 use Rattle.std.specs.Prelude.{true, ℕ, None, Option, Some}
 use Rattle.message.specs.declared.state.Stage.{Stage}
 use Rattle.message.specs.declared.state.OpenMessage.{OpenMessage}

@@ -45,20 +45,11 @@ impl OpenMessage {
     pub fn further(self, stage: Stage, second: Option<u16>, taken: u16) -> OpenMessage
         ensures { result ≡ further stage second taken self }
     {
-        let block = self.block;
-        let table = self.table;
         OpenMessage {
-            command: self.command,
-            line: self.line,
-            block: block,
-            table: table,
-            moved: self.moved,
-            busy: self.busy,
-            queued: self.queued,
-            opened: self.opened,
-            taken: taken,
-            second: second,
-            stage: stage,
+            stage,
+            second,
+            taken,
+            ..self
         }
     }
 }
@@ -69,10 +60,9 @@ pub fn moved_message(message: Option<OpenMessage>) -> Option<OpenMessage>
 {
     match message {
         None => None,
-        Some(held) => {
-            let mut next = held;
-            next.moved = true;
-            Some(next)
-        }
+        Some(held) => Some(OpenMessage {
+            moved: true,
+            ..held
+        }),
     }
 }

@@ -1,52 +1,51 @@
 -- The loop of a call over a window: what is left of the turns leads from where it is to where the
--- whole call leads. A program's own loop keeps `Leads`. Assumes nothing.
+-- whole call leads. Assumes nothing.
 use mathlib.Core.Path.{◌≡◌, refl, sym, ap, ◌∙◌}
-use mathlib.Core.Bool.{Bool, true, false, not}
+use mathlib.Core.Bool.{Bool, true, false}
 use mathlib.Core.List.{List}
 use Prim.Native.Nat.{ℕ, suc, ◌-◌, ◌≤◌, ◌<◌}
 use native.Mathlib.Omega.{arith}
 use lib.ListN.{length}
-use borrow.Author.Tests.{not-true, not-false}
+use Rattle.pieces.specs.declared.stop.Stop.{Stop}
 use Rattle.pieces.specs.Course.{Course}
 use Rattle.pieces.specs.AsCoded.Window.{Passed, is_going, turn, turns}
+use Rattle.pieces.specs.AsCoded.Runner.{going_at, TurnsTaken}
 use Rattle.pieces.proofs.StopLaws.{going_is}
 use Rattle.pieces.proofs.TurnLaws.{one_turn, no_turns, stopped_stays}
 
+-- from `old` on, so many turns lead where all of them lead from `start` on
 pub record Leads {Run : Type 0} (course : Course Run) (window : List ℕ) (last : Bool)
-    (start : Passed Run) (most : ℕ) (old : Passed Run) (left : ℕ) : Type 0 where
-  pub leads : turns course left window last old ≡ turns course most window last start
-  pub out_as_long : length old.out ≡ length start.out
+    (start : Passed Run) (all : ℕ) (old : Passed Run) (most : ℕ) : Type 0 where
+  pub leads : turns course most window last old ≡ turns course all window last start
 
 module _ {Run : Type 0} (course : Course Run) (window : List ℕ) (last : Bool) (start : Passed Run)
-    (most : ℕ) where
-  pub leads_at_start : Leads course window last start most start most
-  leads_at_start = record { leads = refl; out_as_long = refl }
+    (all : ℕ) (old : Passed Run) (most : ℕ)
+    (so_far : Leads course window last start all old most) where
+  -- it has stopped
+  pub leads_stopped : is_going old.stop ≡ false → old ≡ turns course all window last start
+  leads_stopped stops = sym (stopped_stays course window last most old stops) ∙ so_far.leads
 
-  module _ (old : Passed Run) (left : ℕ) (so_far : Leads course window last start most old left)
-    where
-      -- it has stopped
-      pub leads_stopped : (going : Bool) → going ≡ is_going old.stop → not going ≡ true
-          → old ≡ turns course most window last start
-      leads_stopped going is_going_lem stops =
-          sym (stopped_stays course window last left old (sym is_going_lem ∙ not-true going stops))
-          ∙ so_far.leads
+  -- no turn is left
+  pub leads_done : most ≤ 0 → old ≡ turns course all window last start
+  leads_done none = sym (no_turns course window last most old none) ∙ so_far.leads
 
-      -- no turn is left
-      pub leads_done : left ≤ 0 → old ≡ turns course most window last start
-      leads_done none = sym (no_turns course window last left old none) ∙ so_far.leads
-
-      -- a turn more
-      pub leads_on : (going : Bool) (new : Passed Run) → 0 < left → going ≡ is_going old.stop
-          → not going ≡ false → new ≡ turn course window last old
-          → length new.out ≡ length old.out
-          → Leads course window last start most new (left - 1)
-      leads_on going new some is_going_lem goes is_new same =
-          let one : suc (left - 1) ≡ left = omega (arith, some) in
-          record {
-            leads =
-                one_turn course window last (left - 1) old new
-                (going_is old.stop (sym is_going_lem ∙ not-false going goes)) (sym is_new)
-                ∙ ap (λ (any : ℕ). turns course any window last old) one
-                ∙ so_far.leads;
-            out_as_long = same ∙ so_far.out_as_long;
-          }
+  -- some turns at once, and a turn more
+  pub leads_on : (room left next : ℕ) (new : Run) (made : Passed Run) → 0 < most
+      → is_going old.stop ≡ true → room ≡ length old.out - old.put
+      → TurnsTaken course window room most old.run old.at left new next
+      → made ≡ turn course window last (going_at new next old.put old.out)
+      → Leads course window last start all made (left - 1)
+  leads_on room left next new made some goes is_room row is_made =
+      let one : suc (left - 1) ≡ left = omega (arith, row.some_left some) in
+      let as_old : Stop → Passed Run = λ stop.
+      record { run = old.run; at = old.at; put = old.put; out = old.out; stop = stop } in
+      record {
+        leads =
+            one_turn course window last (left - 1) (going_at new next old.put old.out) made refl
+            (sym is_made)
+            ∙ ap (λ (any : ℕ). turns course any window last (going_at new next old.put old.out)) one
+            ∙ row.leads last old.put old.out is_room
+            ∙ ap (λ (stop : Stop). turns course most window last (as_old stop))
+            (sym (going_is old.stop goes))
+            ∙ so_far.leads;
+      }

@@ -6,6 +6,7 @@
 --     WholeLaws     what is made of a recording goes field by field
 --     WindowLaws    a call prints its part, whatever comes behind
 --     TurnLaws      a turn, turn after turn, and what every turn keeps
+--     FieldLaws     a turn goes by what the code of a run answers
 --     LeadLaws      the loop of a call
 --     EndLaws       a call comes to an end
 --     HungryLaws    a call that needs bytes leaves room to read them
@@ -22,6 +23,7 @@ pub mod KeepLaws
 pub mod WholeLaws
 pub mod WindowLaws
 pub mod TurnLaws
+pub mod FieldLaws
 pub mod LeadLaws
 pub mod EndLaws
 pub mod HungryLaws

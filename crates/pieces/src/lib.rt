@@ -5,7 +5,11 @@
 #![tactic(auto)]
 
 mod rest;
+mod runner;
 mod stop;
+mod window;
 
 pub use rest::keep_rest;
+pub use runner::{Runner, Took, Went};
 pub use stop::{Stop, Stopped, stop_at};
+pub use window::{Passed, run_window};

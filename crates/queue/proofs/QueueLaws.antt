@@ -1,17 +1,15 @@
 -- The laws of `specs/Queue.antt`, on each way that the code takes. Assumes nothing.
-use mathlib.Core.Path.{◌≡◌, refl, sym, ◌∙◌}
+use mathlib.Core.Path.{◌≡◌, sym, ◌∙◌}
 use mathlib.Core.Bool.{Bool, true, ◌&&◌, and_assoc, and-true}
-use mathlib.Core.List.{List}
-use Prim.Native.Nat.{ℕ, suc, ◌+◌, ◌-◌, ◌%◌, ◌≤◌, ◌<◌}
+use mathlib.Core.List.{List, [], ◌∷◌}
+use Prim.Native.Nat.{ℕ, ◌+◌, ◌-◌, ◌%◌, ◌≤◌, ◌<◌}
 use native.Mathlib.Nat.{zero-add}
 use native.Mathlib.Omega.{arith}
-use native.Mathlib.Numerals.{add-one}
-use lib.ListN.{length, get_or, set, drop, drop_of_length-le}
-use lib.Seq.{drop-cons}
+use lib.ListN.{get_or, set}
 use borrow.Author.Tests.{lt-ltb, le-ltb, eq-eqb, ne_eqb}
+use Rattle.std.specs.List.{fold}
 use Rattle.bits.specs.Bit.{Weighed, weight_of}
-use Rattle.queue.specs.declared.Ring.{Ring}
-use Rattle.queue.specs.declared.RingRead.{RingRead}
+use Rattle.queue.specs.declared.Queue.{Queue}
 use Rattle.queue.specs.Queue.{
   queue_places,
   queue,
@@ -19,83 +17,74 @@ use Rattle.queue.specs.Queue.{
   with_joined,
   oldest_word,
   without_oldest,
-  read_from,
+  without_oldest_block,
   fit_place,
   fit_places,
 }
 
 -- ---- joining
 
-module _ (places : List ℕ) (ring : Ring) (block : ℕ) where
-  pub joined_full : queue_places ≤ ring.count
-      → queue places (ring_of ring.start ring.count true)
-      ≡ with_joined block (queue places ring)
+module _ (old : Queue) (block : ℕ) where
+  pub joined_full : queue_places ≤ old.ring.count
+      → queue old.places (ring_of old.ring.start old.ring.count true) ≡ with_joined block old
   unfolding with_joined
-  joined_full full = rw (le-ltb ring.count queue_places full)
+  joined_full full = rw (le-ltb old.ring.count queue_places full)
 
-  pub joined_behind : ring.count < queue_places
-      → queue (set places ((ring.start + ring.count) % queue_places) block)
-      (ring_of ring.start (ring.count + 1) ring.overflow)
-      ≡ with_joined block (queue places ring)
+  pub joined_behind : old.ring.count < queue_places
+      → queue (set old.places ((old.ring.start + old.ring.count) % queue_places) block)
+      (ring_of old.ring.start (old.ring.count + 1) old.ring.overflow)
+      ≡ with_joined block old
   unfolding with_joined
-  joined_behind room = rw (lt-ltb ring.count queue_places room)
+  joined_behind room = rw (lt-ltb old.ring.count queue_places room)
 
 pub ruleset joins = (joined_full, joined_behind)
 
 -- ---- reading
 
-abbrev taking : ℕ → Ring → RingRead
-taking word ring = record { word = word; ring = ring }
+module _ (old : Queue) (mark : ℕ) (is : Weighed old.ring.overflow 1024 mark) where
+  pub none_told : old.ring.count ≡ 0 → mark ≡ oldest_word old
+  unfolding oldest_word
+  none_told none =
+      rw (is.exactly, eq-eqb old.ring.count 0 none, zero-add (weight_of old.ring.overflow 1024))
 
-module _ (places : List ℕ) (ring : Ring) (mark : ℕ) (is : Weighed ring.overflow 1024 mark) where
-  pub read_none : ring.count ≡ 0 → taking mark ring ≡ read_from (queue places ring)
-  unfolding oldest_word without_oldest
-  read_none none =
-      let stays : ring.count - 1 ≡ ring.count = omega arith in
-      rw (
-        is.exactly,
-        eq-eqb ring.count 0 none,
-        zero-add (weight_of ring.overflow 1024),
-        stays,
-      )
+  pub oldest_told : (old.ring.count ≡ 0 → ⊥)
+      → 32768 + get_or old.places (old.ring.start % queue_places) 0 % 1024 + mark
+      ≡ oldest_word old
+  unfolding oldest_word
+  oldest_told some = rw (is.exactly, ne_eqb old.ring.count 0 some)
 
-  pub read_oldest : (ring.count ≡ 0 → ⊥)
-      → taking (32768 + get_or places (ring.start % queue_places) 0 % 1024 + mark)
-      (ring_of ((ring.start % queue_places + 1) % queue_places) (ring.count - 1) ring.overflow)
-      ≡ read_from (queue places ring)
-  unfolding oldest_word without_oldest
-  read_oldest some =
-      let next : (ring.start % queue_places + 1) % queue_places ≡ (ring.start + 1) % queue_places =
+module _ (old : Queue) where
+  pub none_left : old.ring.count ≡ 0 → old ≡ without_oldest_block old
+  unfolding without_oldest
+  none_left none =
+      let stays : old.ring.count - 1 ≡ old.ring.count = omega arith in
+      rw (eq-eqb old.ring.count 0 none, stays)
+
+  pub oldest_left : (old.ring.count ≡ 0 → ⊥)
+      → queue old.places
+      (ring_of ((old.ring.start % queue_places + 1) % queue_places) (old.ring.count - 1)
+      old.ring.overflow)
+      ≡ without_oldest_block old
+  unfolding without_oldest
+  oldest_left some =
+      let next : (old.ring.start % queue_places + 1) % queue_places
+      ≡ (old.ring.start + 1) % queue_places =
       omega arith in
-      rw (is.exactly, next, ne_eqb ring.count 0 some)
+      rw (next, ne_eqb old.ring.count 0 some)
 
-pub ruleset reads = (read_none, read_oldest)
+pub ruleset reads = (none_told, oldest_told, none_left, oldest_left)
 
--- ---- the scan for fitness: what is left to judge, behind what was found so far
+-- ---- the scan for fitness
 
-pub record Judging (blocks : ℕ) (wanted : Bool) (fit : Bool) (places : List ℕ) (place : ℕ) : Type 0
-  where
-    pub comes_to : wanted ≡ fit && fit_places blocks (drop place places)
+-- behind what was found so far
+fit_behind : (blocks : ℕ) (fit : Bool) (places : List ℕ)
+    → fold (λ fit place. fit && fit_place blocks place) fit places
+    ≡ (fit && fit_places blocks places)
+fit_behind blocks fit [] = sym (and-true fit)
+fit_behind blocks fit (place ∷ places) =
+    fit_behind blocks (fit && fit_place blocks place) places
+    ∙ and_assoc fit (fit_place blocks place) (fit_places blocks places)
 
-pub judging_all : (blocks : ℕ) (places : List ℕ)
-    → Judging blocks (fit_places blocks places) true places 0
-judging_all blocks places = record { comes_to = refl }
-
-module _ {blocks : ℕ} {wanted fit : Bool} {places : List ℕ} {place : ℕ}
-    (judging : Judging blocks wanted fit places place) where
-  pub judging_less : place < length places
-      → Judging blocks wanted (fit && fit_place blocks (get_or places place 0)) places (place + 1)
-  judging_less inside =
-      record {
-        comes_to =
-            judging.comes_to
-            ∙ rw (add-one place, drop-cons places place 0 inside)
-            (sym
-            (and_assoc fit (fit_place blocks (get_or places place 0))
-            (fit_places blocks (drop (suc place) places))));
-      }
-
-  pub judging_none : (count : ℕ) → length places ≡ count → count ≤ place → fit ≡ wanted
-  judging_none count long all =
-      sym (judging.comes_to
-      ∙ rw (drop_of_length-le places {i = place} (omega arith)) (and-true fit))
+pub places_fit : (blocks : ℕ) (places : List ℕ)
+    → fold (λ fit place. fit && fit_place blocks place) true places ≡ fit_places blocks places
+places_fit blocks places = fit_behind blocks true places

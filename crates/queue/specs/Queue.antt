@@ -23,8 +23,6 @@ use Rattle.std.specs.Prelude.{
 use Rattle.bits.specs.Bit.{weight_of}
 use Rattle.queue.specs.declared.Ring.{Ring}
 use Rattle.queue.specs.declared.Queue.{Queue}
-use Rattle.queue.specs.declared.RingRead.{RingRead}
-use Rattle.queue.specs.declared.QueueRead.{QueueRead}
 
 abbrev pub queue_places : ℕ
 queue_places = 256
@@ -72,12 +70,8 @@ without_oldest ring =
     (ring.count - 1)
     ring.overflow
 
-abbrev pub read_from : Queue → RingRead
-read_from old = record { word = oldest_word old; ring = without_oldest old.ring }
-
-abbrev pub read_of : Queue → QueueRead
-read_of old =
-    record { word = oldest_word old; queue = queue old.places (without_oldest old.ring) }
+abbrev pub without_oldest_block : Queue → Queue
+without_oldest_block old = queue old.places (without_oldest old.ring)
 
 -- ---- fitness, as refusal 4 judges it: all 256 places, in use or not
 

@@ -1,22 +1,20 @@
-// The queue of finished blocks: a ring of 256 places with its overflow mark. `Ring` is where the
-// queue begins and how long it is; its places can be lent to it apart, so that a long run need not
-// carry them by value.
+// The queue of finished blocks: a ring of 256 places with its overflow mark.
 #![tactic(auto)]
 
-ghost use Rattle.std.specs.Prelude.{◌≡◌};
+ghost use Rattle.std.specs.Prelude.{◌≡◌, ◌&&◌, true, fold};
 ghost use Rattle.queue.specs.Queue.{
   empty_queue,
-  queue,
   with_joined,
-  read_of,
-  read_from,
+  oldest_word,
+  without_oldest_block,
+  fit_place,
   fit_queue,
-  fit_places,
 };
 
 // The places of the queue.
 pub const QUEUE_PLACES: u16 = 256;
 
+// Where the queue begins, how long it is, and whether a block was lost.
 #[derive(Clone, Copy)]
 pub struct Ring {
     pub start: u16,
@@ -30,84 +28,22 @@ pub struct Queue {
     pub ring: Ring,
 }
 
-// What a read gives: the word, and the ring after it. The places stay as they are.
-#[derive(Clone, Copy)]
-pub struct RingRead {
-    pub word: u16,
-    pub ring: Ring,
-}
-
-// What a read gives: the word, and the queue after it.
-#[derive(Clone, Copy)]
-pub struct QueueRead {
-    pub word: u16,
-    pub queue: Queue,
-}
-
-impl Ring {
-    // A block joins behind the others; where the places are full it is lost and overflow set.
-    pub fn join(self, places: &mut [u16; 256], block: u16) -> Ring
-        ensures { queue places.new result
-            ≡ with_joined block (queue places.old self) }
-    {
-        let start = self.start as usize;
-        let count = self.count as usize;
-        let mut ring = self;
-        if 256 <= count {
-            ring.overflow = true;
-            return ring;
-        }
-        let place = (start + count) % 256;
-        places[place] = block;
-        ring.count = self.count + 1;
-        ring
-    }
-
-    // The oldest block leaves: bits 9 to 0, with bit 15 set; bit 10 is the overflow mark.
-    pub fn read(self, places: &[u16; 256]) -> RingRead
-        ensures { result ≡ read_from (queue places.now self) }
-    {
-        let mark = bits::weigh(self.overflow, 1024);
-        if self.count == 0 {
-            return RingRead {
-                word: mark,
-                ring: self,
-            };
-        }
-        let place = (self.start % 256) as usize;
-        let block = places[place];
-        RingRead {
-            word: 32768 + block % 1024 + mark,
-            ring: Ring {
-                start: (self.start % 256 + 1) % 256,
-                count: self.count - 1,
-                overflow: self.overflow,
-            },
-        }
-    }
-}
-
-// Whether every place holds the number of a block, in use or not. The loop has no branch, so that
-// the scan runs at the speed of memory.
-fn places_fit(places: [u16; 256], blocks: u16) -> bool
-    ensures { result ≡ fit_places blocks places }
+// Whether every place holds the number of a block, in use or not. A fold has no branch, so that the
+// scan runs at the speed of memory; `all` stops at a place.
+fn places_fit(places: &[u16; 256], blocks: u16) -> bool
+    ensures { result ≡ fold (λ fit place. fit && fit_place blocks place) true places.now }
 {
-    let mut fit = true;
-    let mut place: usize = 0;
-    while place < 256 {
-        fit = fit & (places[place] < blocks);
-        place += 1;
-    }
-    fit
+    places
+        .iter()
+        .fold(true, |fit, place| fit & (*place < blocks))
 }
 
 impl Queue {
     pub fn empty() -> Queue
         ensures { result ≡ empty_queue }
     {
-        let places = [0; 256];
         Queue {
-            places: places,
+            places: [0; 256],
             ring: Ring {
                 start: 0,
                 count: 0,
@@ -116,29 +52,41 @@ impl Queue {
         }
     }
 
-    pub fn read(self) -> QueueRead
-        ensures { result ≡ read_of self }
+    // A block joins behind the others; where the places are full it is lost and overflow set.
+    pub fn join(&mut self, block: u16)
+        ensures { self.new ≡ with_joined block self.old }
     {
-        let places = self.places;
-        let old = self.ring;
-        let taken = old.read(&places);
-        let ring = taken.ring;
-        QueueRead {
-            word: taken.word,
-            queue: Queue {
-                places: places,
-                ring: ring,
-            },
+        if self.ring.count >= QUEUE_PLACES {
+            self.ring.overflow = true;
+            return;
         }
+        let place = (self.ring.start as usize + self.ring.count as usize) % 256;
+        self.places[place] = block;
+        self.ring.count += 1;
+    }
+
+    // The oldest block leaves: bits 9 to 0, with bit 15 set; bit 10 is the overflow mark.
+    pub fn read(&mut self) -> u16
+        ensures word { result ≡ oldest_word self.old }
+        ensures left { self.new ≡ without_oldest_block self.old }
+    {
+        let mark = bits::weigh(self.ring.overflow, 1024);
+        if self.ring.count == 0 {
+            return mark;
+        }
+        let place = self.ring.start % QUEUE_PLACES;
+        let block = self.places[place as usize];
+        self.ring.start = (place + 1) % QUEUE_PLACES;
+        self.ring.count -= 1;
+        32768 + block % 1024 + mark
     }
 
     // Whether start, count and all places are fit, on a card of so many blocks.
-    pub fn is_fit(self, blocks: u16) -> bool
-        ensures { result ≡ fit_queue blocks self }
+    pub fn is_fit(&self, blocks: u16) -> bool
+        ensures { result ≡ fit_queue blocks self.now }
     {
-        let places = self.places;
-        let ring = self.ring;
-        let fit = places_fit(places, blocks);
-        (ring.start < QUEUE_PLACES) & (ring.count <= QUEUE_PLACES) & fit
+        (self.ring.start < QUEUE_PLACES)
+            & (self.ring.count <= QUEUE_PLACES)
+            & places_fit(&self.places, blocks)
     }
 }

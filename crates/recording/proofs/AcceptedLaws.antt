@@ -10,11 +10,9 @@ use lib.ListN.{drop}
 use lib.Seq.{drop-append-le}
 use Rattle.recording.specs.declared.field.Field.{Field}
 use Rattle.recording.specs.declared.seen.Seen.{Seen}
-use Rattle.recording.specs.declared.reading.Reading.{Reading}
-use Rattle.recording.specs.declared.reading.Reading.TheVariants.{Taken, End, Refused}
 use Rattle.recording.specs.Field.{is_setup}
 use Rattle.recording.specs.Seen.{seen_after}
-use Rattle.recording.specs.Reading.{read_at}
+use Rattle.recording.specs.Reading.{Reading, Taken, End, Refused, read_at}
 use Rattle.recording.specs.Value.{Valued, valued_at, field_of}
 use Rattle.recording.specs.Accepted.{
   TakesFields,

@@ -4,6 +4,7 @@
 use mathlib.Core.Path.{◌≡◌, refl, sym, ap, subst, ◌∙◌}
 use mathlib.Core.Bool.{true, false}
 use mathlib.Core.List.{List, [], ◌∷◌, ◌++◌, append_assoc}
+use Rattle.std.proofs.Common.{Some}
 use Prim.Native.Nat.{ℕ, ◌+◌, ◌≤◌}
 use native.Mathlib.Omega.{arith}
 use lib.Dec.{eqb, ltb}
@@ -14,12 +15,11 @@ use Rattle.card.specs.Memory.{card_blocks}
 use Rattle.recording.specs.declared.tag.Tag.{Tag}
 use Rattle.recording.specs.declared.field.Field.{Field}
 use Rattle.recording.specs.declared.seen.Seen.{Seen}
-use Rattle.recording.specs.declared.reading.Reading.TheVariants.{Taken}
 use Rattle.recording.specs.Bytes.{bytes_left, word_at}
-use Rattle.recording.specs.Tag.{tag_of, tag_at, is_unknown, length_fits}
+use Rattle.recording.specs.Tag.{tag_of, tag_at, length_fits}
 use Rattle.recording.specs.Field.{field_at, value_refusal}
-use Rattle.recording.specs.Seen.{is_due, seen_after}
-use Rattle.recording.specs.Reading.{read_at}
+use Rattle.recording.specs.Seen.{seen_after}
+use Rattle.recording.specs.Reading.{Taken, read_at}
 use Rattle.recording.specs.Value.{Valued, valued_at}
 use Rattle.recording.specs.Accepted.{
   TakesFields,
@@ -43,33 +43,31 @@ module _ (front back : List ℕ) (seen : Seen) {field : Field} {next : ℕ}
   unfolding read_at
   own_bytes =
       let told = taken_tells (front ++ back) 0 seen is in
-      let tag : Tag = tag_at front 0 in
+      let tag : Tag = told.tag in
       let size : ℕ = word_at front 1 in
       let enough : 3 ≤ length front = omega (arith, told.is_next) in
-      let same_tag : tag_at (front ++ back) 0 ≡ tag =
-      ap tag_of (get_or-append front back 0 0 (omega arith)) in
+      let known : tag_at front 0 ≡ Some tag =
+      ap tag_of (sym (get_or-append front back 0 0 (omega arith))) ∙ told.known in
       let same_size : word_at (front ++ back) 1 ≡ size =
       rw (
         get_or-append front back 0 1 (omega arith),
         get_or-append front back 0 2 (omega arith),
       ) refl in
-      let known : is_unknown tag ≡ false = ap is_unknown (sym same_tag) ∙ told.known in
-      let fits : length_fits tag size ≡ true = rw (same_tag, same_size) at told.there.fits in
+      let fits : length_fits tag size ≡ true = rw same_size at told.there.fits in
       let whole : 3 + size ≤ length front = omega (arith, told.is_next, same_size) in
       let same_field : field ≡ field_at front tag 3 size =
       told.is_field
-      ∙ rw (same_tag, same_size)
+      ∙ rw same_size
       (field_of_more front back tag 3 size (record { fits = fits; inside = whole })) in
       let some : eqb (bytes_left front 0) 0 ≡ false =
       ne_eqb (bytes_left front 0) 0 (λ none. absurd (omega (arith, enough, none))) in
       let long : ltb (bytes_left front 0) 3 ≡ false = le-ltb (bytes_left front 0) 3 (omega arith) in
       let all : ltb (bytes_left front 0) (3 + size) ≡ false =
       le-ltb (bytes_left front 0) (3 + size) (omega arith) in
-      let due : is_due tag seen ≡ true = rw same_tag at told.due in
       let in_order : value_refusal card_blocks (field_at front tag 3 size) ≡ 0 =
       ap (value_refusal card_blocks) (sym same_field) ∙ told.in_order in
       let same_next : 3 + size ≡ next = omega (arith, told.is_next, same_size) in
-      rw (some, known, long, fits, all, due, in_order, same_next, sym same_field) refl
+      rw (some, known, long, fits, all, told.due, in_order, same_next, sym same_field) refl
 
 -- ---- the bytes of fields that are taken
 

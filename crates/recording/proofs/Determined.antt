@@ -3,6 +3,7 @@
 use mathlib.Core.List.{List}
 use Prim.Native.Nat.{ℕ}
 use Rattle.rules.proofs.Determined.{Determined, DeterminedAs, same}
+use Rattle.recording.proofs.AnswerLaws.{same_reading}
 use Rattle.recording.proofs.seen.Seen.nothing.Kinds as nothing_kinds
 use Rattle.recording.proofs.seen.Seen.nothing.Reads as nothing_reads
 use Rattle.recording.proofs.seen.Seen.after.Kinds as after_kinds
@@ -23,7 +24,8 @@ pub seen_after : Determined 0 after_kinds.ps after_kinds.r after_reads.Post
 seen_after κs arguments result result' exit exit' = same
 
 pub read_field : Determined 1 read_field_kinds.ps read_field_kinds.r read_field_reads.Post
-read_field κs arguments result result' exit exit' = same
+read_field κs arguments result result' exit exit' = λ is is'.
+    same_reading result result' (same is is')
 
 pub find_word : Determined 1 find_word_kinds.ps find_word_kinds.r find_word_reads.Post
 find_word κs arguments result result' exit exit' = same

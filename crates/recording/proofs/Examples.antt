@@ -5,12 +5,11 @@ use mathlib.Core.Bool.{true, false}
 use mathlib.Core.List.{List, [], ◌∷◌, ◌++◌}
 use Prim.Native.Nat.{ℕ}
 use lib.ListN.{replicate, take, drop}
-use Rattle.recording.specs.declared.reading.Reading.TheVariants.{End, Refused}
 use Rattle.recording.specs.Bytes.{with_written}
 use Rattle.recording.specs.Tag.{tag_of, length_fits}
 use Rattle.recording.specs.Field.{field_at}
 use Rattle.recording.specs.Seen.{nothing_seen, setup_seen}
-use Rattle.recording.specs.Reading.{read_at}
+use Rattle.recording.specs.Reading.{End, Refused, read_at}
 use Rattle.recording.specs.AsCoded.Pieces.{is_settled, shifted}
 
 -- a setup, and the command of document 01's run

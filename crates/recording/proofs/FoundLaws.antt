@@ -1,20 +1,23 @@
 -- The laws of `specs/AsCoded/Found.antt`: what is found on each way that the code takes, and that a
 -- word field which is found is what the reader reads there (`found_is_read`). Assumes nothing.
-use mathlib.Core.Path.{◌≡◌, refl, subst}
-use mathlib.Core.Bool.{Bool, true, false, not, ◌&&◌}
+use mathlib.Core.Path.{◌≡◌, refl, sym, subst}
+use mathlib.Core.Bool.{Bool, true, false, ◌&&◌}
 use mathlib.Core.List.{List}
-use Prim.Native.Nat.{ℕ, ◌+◌, ◌≤◌, ◌<◌}
+use Rattle.std.proofs.Common.{Option, Some, None}
+use Prim.Native.Nat.{ℕ, ◌+◌, ◌-◌, ◌*◌, ◌≤◌, ◌<◌}
 use native.Mathlib.Omega.{arith}
 use lib.Dec.{eqb, leb, ltb}
+use lib.ListN.{length, get_or, drop, length-drop}
+use lib.Seq.{take_all, get_or-drop}
+use Rattle.std.specs.List.{slice_range}
 use borrow.Author.Tests.{
   eqb-true,
+  eq-eqb,
   ne_eqb,
   leb-true,
   le-leb,
   lt-leb,
   le-ltb,
-  not-true,
-  not-false,
 }
 use Rattle.rules.proofs.Choices.{by_test}
 use Rattle.rules.proofs.Halves.{first_of_both, second_of_both}
@@ -22,37 +25,106 @@ use Rattle.bus.specs.Limits.{all_marks, are_marks}
 use Rattle.recording.specs.declared.field.Field.TheVariants.{Word}
 use Rattle.recording.specs.declared.seen.Seen.{Seen}
 use Rattle.recording.specs.declared.words.Found.{Found}
-use Rattle.recording.specs.declared.words.Found.TheVariants.{Value, Nothing}
-use Rattle.recording.specs.declared.reading.Reading.TheVariants.{Taken}
 use Rattle.recording.specs.Bytes.{bytes_left, byte_at, word_at, time_at}
 use Rattle.recording.specs.Tag.{word_tag, tag_of, length_fits}
 use Rattle.recording.specs.Field.{field_at}
-use Rattle.recording.specs.Reading.{read_at}
-use Rattle.recording.specs.AsCoded.Found.{starts_word, word_found}
+use Rattle.recording.specs.Reading.{Taken, read_at}
+use Rattle.recording.specs.AsCoded.Found.{starts_word, found, word_found}
 
 -- ---- as the code looks
 
-module _ (bytes : List ℕ) (place marks left : ℕ) (is_left : left ≡ bytes_left bytes place) where
-  pub found_short : left < 10 → Nothing ≡ word_found bytes place marks
+module _ (bytes : List ℕ) (place marks : ℕ) where
+  pub found_past : length bytes < place → None ≡ word_found bytes place marks
   unfolding word_found
-  found_short short = rw (lt-leb 10 (bytes_left bytes place) (omega arith))
+  found_past past = rw (lt-leb 10 (bytes_left bytes place) (omega arith))
 
-  module _ (whole : 10 ≤ left) where
-    long : leb 10 (bytes_left bytes place) ≡ true
-    long = le-leb 10 (bytes_left bytes place) (omega arith)
-
-    pub found_other : not (starts_word bytes place marks) ≡ true
-        → Nothing ≡ word_found bytes place marks
+  -- the bytes from the place on
+  module _ (rest : List ℕ) (is_rest : rest ≡ slice_range bytes place (length bytes))
+      (as_long : length rest + place ≡ length bytes) where
+    pub found_short : length rest < 10 → None ≡ word_found bytes place marks
     unfolding word_found
-    found_other other = rw (long, not-true (starts_word bytes place marks) other)
+    found_short short = rw (lt-leb 10 (bytes_left bytes place) (omega arith))
 
-    pub found_word : (value : ℕ) → not (starts_word bytes place marks) ≡ false
-        → value ≡ word_at bytes (place + 4)
-        → Value value (place + 10) ≡ word_found bytes place marks
-    unfolding word_found
-    found_word value is is_value = rw (long, not-false (starts_word bytes place marks) is, is_value)
+    module _ (whole : 10 ≤ length rest) where
+      long : leb 10 (bytes_left bytes place) ≡ true
+      long = le-leb 10 (bytes_left bytes place) (omega arith)
 
-pub ruleset finding = (found_short, found_other, found_word)
+      byte : (offset : ℕ) → byte_at bytes (place + offset) ≡ get_or rest offset 0
+      byte offset =
+          rw (
+            is_rest,
+            take_all (length bytes - place) (drop place bytes)
+                (omega (arith, length-drop place bytes)),
+          )
+          (sym (get_or-drop place bytes offset 0))
+
+      first : byte_at bytes place ≡ get_or rest 0 0
+      first =
+          let same : place + 0 ≡ place = omega arith in
+          rw same at (byte 0)
+
+      pub other_tag : (get_or rest 0 0 ≡ word_tag → ⊥) → None ≡ word_found bytes place marks
+      unfolding word_found
+      other_tag other = rw (long, first, ne_eqb (get_or rest 0 0) word_tag other)
+
+      module _ (tag : get_or rest 0 0 ≡ word_tag) where
+        pub other_high : (get_or rest 1 0 ≡ 0 → ⊥) → None ≡ word_found bytes place marks
+        unfolding word_found
+        other_high other = rw (long, first, tag, byte 1, ne_eqb (get_or rest 1 0) 0 other)
+
+        module _ (high : get_or rest 1 0 ≡ 0) where
+          pub other_low : (get_or rest 2 0 ≡ 7 → ⊥) → None ≡ word_found bytes place marks
+          unfolding word_found
+          other_low other =
+              rw (long, first, tag, byte 1, high, byte 2, ne_eqb (get_or rest 2 0) 7 other)
+
+          module _ (low : get_or rest 2 0 ≡ 7) where
+            pub other_marks : (get_or rest 3 0 ≡ marks → ⊥) → None ≡ word_found bytes place marks
+            unfolding word_found
+            other_marks other =
+                rw (
+                  long,
+                  first,
+                  tag,
+                  byte 1,
+                  high,
+                  byte 2,
+                  low,
+                  byte 3,
+                  ne_eqb (get_or rest 3 0) marks other,
+                )
+
+            pub found_word : (value : ℕ) → get_or rest 3 0 ≡ marks
+                → value ≡ get_or rest 4 0 * 256 + get_or rest 5 0
+                → Some (found value (place + 10)) ≡ word_found bytes place marks
+            unfolding word_found
+            found_word value marked is =
+                let after : place + 4 + 1 ≡ place + 5 = omega arith in
+                rw (
+                  long,
+                  first,
+                  tag,
+                  byte 1,
+                  high,
+                  byte 2,
+                  low,
+                  byte 3,
+                  eq-eqb (get_or rest 3 0) marks marked,
+                  after,
+                  byte 4,
+                  byte 5,
+                  is,
+                )
+
+pub ruleset finding = (
+  found_past,
+  found_short,
+  other_tag,
+  other_high,
+  other_low,
+  other_marks,
+  found_word,
+)
 
 -- ---- what is found is read
 
@@ -93,13 +165,14 @@ module _ (bytes : List ℕ) (place marks : ℕ) (few : marks ≤ all_marks) (see
         next,
       )
 
-  abbrev Read : Found → Type 0
-  Read (Value value next) =
-      (next ≡ place + 10)
+  abbrev Read : Option Found → Type 0
+  Read (Some word) =
+      (word.next ≡ place + 10)
       × (10 ≤ bytes_left bytes place)
       × (byte_at bytes place ≡ word_tag)
-      × (read_at bytes place seen ≡ Taken (Word marks value (time_at bytes (place + 6))) next)
-  Read Nothing = place ≡ place
+      × (read_at bytes place seen
+      ≡ Taken (Word marks word.value (time_at bytes (place + 6))) word.next)
+  Read None = place ≡ place
 
   found_tells : Read (word_found bytes place marks)
   unfolding word_found
@@ -120,7 +193,7 @@ module _ (bytes : List ℕ) (place marks : ℕ) (few : marks ≤ all_marks) (see
       marked = eqb (byte_at bytes (place + 3)) marks
 
       go : leb 10 (bytes_left bytes place) && (tag && high && low && marked) ≡ true
-          → Read (Value (word_at bytes (place + 4)) (place + 10))
+          → Read (Some (found (word_at bytes (place + 4)) (place + 10)))
       go is =
           let long = leb 10 (bytes_left bytes place) in
           let to_marked = second_of_both long (tag && high && low && marked) is in
@@ -141,7 +214,7 @@ module _ (bytes : List ℕ) (place marks : ℕ) (few : marks ≤ all_marks) (see
                 (second_of_both (tag && high && low) marked to_marked)),
           )
 
-  module _ {value next : ℕ} (is : word_found bytes place marks ≡ Value value next) where
+  module _ {value next : ℕ} (is : word_found bytes place marks ≡ Some (found value next)) where
     pub found_is_read :
         read_at bytes place seen ≡ Taken (Word marks value (time_at bytes (place + 6))) next
     found_is_read = (subst Read is found_tells).3

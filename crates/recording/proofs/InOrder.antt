@@ -31,11 +31,10 @@ use Rattle.recording.specs.declared.field.Field.TheVariants.{
   MoveTable,
   SetFlags,
 }
-use Rattle.recording.specs.declared.reading.Reading.TheVariants.{Taken}
 use Rattle.recording.specs.Bytes.{byte_at, word_at}
-use Rattle.recording.specs.Tag.{tag_at, length_fits}
+use Rattle.recording.specs.Tag.{length_fits}
 use Rattle.recording.specs.Field.{field_at, value_refusal}
-use Rattle.recording.specs.Reading.{read_at}
+use Rattle.recording.specs.Reading.{Taken, read_at}
 use Rattle.recording.proofs.TagLaws.{WriteSize, write_size}
 use Rattle.recording.proofs.TakenLaws.{TakenAt, taken_tells}
 
@@ -135,14 +134,12 @@ module _ (bytes : List ℕ) (place size : ℕ) where
       write_in_order place size (word_at bytes (place + 3)) (write_size size fits)
   field_in_order tags.MoveTable fits = table_in_order (byte_at bytes (place + 3))
   field_in_order tags.SetFlags fits = within all_flags (byte_at bytes (place + 3))
-  field_in_order tags.Unknown fits = λ _. tt
 
 pub taken_in_order : (bytes : List ℕ) (place : ℕ) (seen : Seen) {field : Field} {next : ℕ}
     → read_at bytes place seen ≡ Taken field next → InOrder place next field
 taken_in_order bytes place seen {field} {next} is =
     let told : TakenAt bytes place seen field next = taken_tells bytes place seen is in
     let size : ℕ = word_at bytes (place + 1) in
-    let tag : Tag = tag_at bytes place in
     rw (told.is_next, told.is_field)
-    (field_in_order bytes place size tag told.there.fits
+    (field_in_order bytes place size told.tag told.there.fits
     (rw told.is_field at told.in_order))

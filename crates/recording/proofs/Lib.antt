@@ -1,7 +1,7 @@
 -- The mathematics of recordings. Read `Theorems`: what is proved.
 --     Theorems       the statements, by name
 --     TagLaws        the sizes that fit a tag
---     FieldLaws      what a field holds on each way that the code takes
+--     FieldLaws      the bytes of a value, and the numbers of a field's refusal
 --     ReadingLaws    the reader's order on each way that the code takes
 --     WordsLaws      the words of a host write, one by one
 --     TakenLaws      what a reading tells: where a field ends, whom a refusal names
@@ -15,6 +15,7 @@
 --     ValueLaws      the values of a field, wherever it stands
 --     AcceptedLaws   the reader takes one row of fields alone
 --     CutLaws        accepted bytes cut at the end of a field
+--     AnswerLaws     an answer of the reader tells all of a reading
 --     Determined     each public contract allows one outcome alone
 --     Examples       the definitions at work, by computation
 mod Theorems
@@ -33,5 +34,6 @@ pub mod Shifted
 pub mod ValueLaws
 pub mod AcceptedLaws
 pub mod CutLaws
+pub mod AnswerLaws
 pub mod Determined
 mod Examples

@@ -4,6 +4,7 @@ use mathlib.Core.Path.{◌≡◌, refl, ap, ◌∙◌}
 use mathlib.Core.Logic.{◌≢◌}
 use mathlib.Core.Bool.{true, false, not}
 use mathlib.Core.List.{List, ◌++◌}
+use Rattle.std.proofs.Common.{Option, Some, None}
 use Prim.Native.Nat.{ℕ, zero, suc, ◌+◌, ◌*◌, ◌≤◌, ◌<◌}
 use native.Mathlib.Omega.{arith}
 use lib.Dec.{eqb, ltb}
@@ -29,17 +30,14 @@ use Rattle.recording.specs.declared.tag.Tag.TheVariants.{
   HostWrite,
   MoveTable,
   SetFlags,
-  Unknown,
 }
 use Rattle.recording.specs.declared.field.Field.{Field}
 use Rattle.recording.specs.declared.seen.Seen.{Seen}
-use Rattle.recording.specs.declared.reading.Reading.{Reading}
-use Rattle.recording.specs.declared.reading.Reading.TheVariants.{Taken, End, Refused}
 use Rattle.recording.specs.Bytes.{bytes_left, byte_at, word_at, time_at, words_at}
-use Rattle.recording.specs.Tag.{tag_at, is_unknown, length_fits}
+use Rattle.recording.specs.Tag.{tag_at, length_fits}
 use Rattle.recording.specs.Field.{field_at, value_refusal, ValueThere}
 use Rattle.recording.specs.Seen.{is_due}
-use Rattle.recording.specs.Reading.{read_at}
+use Rattle.recording.specs.Reading.{Reading, Taken, End, Refused, read_by, read_at}
 use Rattle.recording.specs.AsCoded.Pieces.{is_settled}
 use Rattle.recording.proofs.TagLaws.{size_at_most}
 use Rattle.recording.proofs.FieldLaws.{
@@ -101,7 +99,6 @@ module _ (front back : List ℕ) where
       rw (word_of_more value (omega (arith, there.inside)))
   field_of_more MoveTable value size there = rw (byte_of_more value (table_there there refl))
   field_of_more SetFlags value size there = rw (byte_of_more value (flags_there there refl))
-  field_of_more Unknown value size there = refl
 
 -- ---- a settled reading stays
 
@@ -111,22 +108,13 @@ module _ (front back : List ℕ) (place : ℕ) (seen : Seen) where
   reading_stays =
       open_way is_settled End (eqb left 0) (eqb left' 0) refl still_some (λ some.
       rw (byte_of_more front back place (omega (arith, eqb-false left 0 some)))
-      (same_way is_settled (Refused 6 place) (is_unknown tag) (λ _.
-      open_way is_settled (Refused 5 place) (ltb left 3) (ltb left' 3) refl (still 3) (λ long.
-      rw (word_of_more front back (place + 1) (omega (arith, ltb-false left 3 long)))
-      (same_way is_settled (Refused 7 place) (not (length_fits tag size)) (λ fits.
-      open_way is_settled (Refused 5 place) (ltb left all) (ltb left' all) refl (still all)
-      (λ whole.
-      rw (field_of_more front back tag (place + 3) size (there fits whole)) (same is_settled))))))))
+      (by_tag (tag_at front place)))
     where
       left : ℕ
       left = bytes_left front place
 
       left' : ℕ
       left' = bytes_left (front ++ back) place
-
-      tag : Tag
-      tag = tag_at front place
 
       size : ℕ
       size = word_at front (place + 1)
@@ -143,13 +131,26 @@ module _ (front back : List ℕ) (place : ℕ) (seen : Seen) where
       still : (least : ℕ) → ltb left least ≡ false → ltb left' least ≡ false
       still least long = le-ltb left' least (omega (arith, more, ltb-false left least long))
 
-      there : not (length_fits tag size) ≡ false → ltb left all ≡ false
+      there : (tag : Tag) → not (length_fits tag size) ≡ false → ltb left all ≡ false
           → ValueThere front tag (place + 3) size
-      there fits whole =
+      there tag fits whole =
           record {
             fits = not-false (length_fits tag size) fits;
             inside = omega (arith, ltb-false left all whole);
           }
+
+      by_tag : (tag : Option Tag)
+          → Stays is_settled (read_by tag front place seen)
+          (read_by tag (front ++ back) place seen)
+      by_tag None = same is_settled
+      by_tag (Some tag) =
+          open_way is_settled (Refused 5 place) (ltb left 3) (ltb left' 3) refl (still 3) (λ long.
+          rw (word_of_more front back (place + 1) (omega (arith, ltb-false left 3 long)))
+          (same_way is_settled (Refused 7 place) (not (length_fits tag size)) (λ fits.
+          open_way is_settled (Refused 5 place) (ltb left all) (ltb left' all) refl (still all)
+          (λ whole.
+          rw (field_of_more front back tag (place + 3) size (there tag fits whole))
+          (same is_settled)))))
 
   -- bytes that come behind change no reading that is settled
   pub settled_stays : is_settled (read_at front place seen) ≡ true
@@ -174,17 +175,7 @@ pub settled_by_133 : (bytes : List ℕ) (place : ℕ) (seen : Seen) → place + 
 unfolding read_at
 settled_by_133 bytes place seen enough =
     by_test Settled (eqb left 0) (λ none. absurd (omega (arith, eqb-true left 0 none))) (λ _.
-    by_test Settled (is_unknown tag) (λ _. refl) (λ _.
-    by_test Settled (ltb left 3) (λ short. absurd (omega (arith, ltb-true left 3 short))) (λ _.
-    by_test Settled (not (length_fits tag size)) (λ _. refl) (λ fits.
-    by_test Settled (ltb left (3 + size)) (λ short.
-    absurd (omega (
-      arith,
-      ltb-true left (3 + size) short,
-      size_at_most tag size (not-false (length_fits tag size) fits),
-    ))) (λ _.
-    by_test Settled (not (is_due tag seen)) (λ _. refl) (λ _.
-    by_test Settled (eqb (value_refusal card_blocks field) 0) (λ _. refl) (λ _. not_5 field)))))))
+    by_tag (tag_at bytes place))
   where
     Settled : Reading → Type 0
     Settled reading = is_settled reading ≡ true
@@ -192,14 +183,25 @@ settled_by_133 bytes place seen enough =
     left : ℕ
     left = bytes_left bytes place
 
-    tag : Tag
-    tag = tag_at bytes place
-
     size : ℕ
     size = word_at bytes (place + 1)
 
-    field : Field
-    field = field_at bytes tag (place + 3) size
-
     not_5 : (other : Field) → not (eqb (value_refusal card_blocks other) 5) ≡ true
     not_5 = by_refusal (λ number. not (eqb number 5) ≡ true) refl refl refl refl card_blocks
+
+    by_tag : (tag : Option Tag) → Settled (read_by tag bytes place seen)
+    by_tag None = refl
+    by_tag (Some tag) =
+        let field : Field = field_at bytes tag (place + 3) size in
+        by_test Settled (ltb left 3)
+        (λ short. absurd (omega (arith, ltb-true left 3 short))) (λ _.
+        by_test Settled (not (length_fits tag size)) (λ _. refl) (λ fits.
+        by_test Settled (ltb left (3 + size)) (λ short.
+        absurd (omega (
+          arith,
+          ltb-true left (3 + size) short,
+          size_at_most tag size (not-false (length_fits tag size) fits),
+        ))) (λ _.
+        by_test Settled (not (is_due tag seen)) (λ _. refl) (λ _.
+        by_test Settled (eqb (value_refusal card_blocks field) 0) (λ _. refl) (λ _.
+        not_5 field)))))

@@ -3,6 +3,7 @@
 use mathlib.Core.Path.{◌≡◌}
 use mathlib.Core.Bool.{Bool, true, false, cond, not}
 use mathlib.Core.List.{List}
+use Rattle.std.proofs.Common.{Option, Some, None}
 use Prim.Native.Nat.{ℕ, ◌+◌, ◌-◌, ◌/◌, ◌<◌}
 use native.Mathlib.Omega.{arith}
 use lib.Dec.{eqb, ltb}
@@ -20,16 +21,13 @@ use Rattle.recording.specs.declared.tag.Tag.TheVariants.{
   HostWrite,
   MoveTable,
   SetFlags,
-  Unknown,
 }
 use Rattle.recording.specs.declared.seen.Seen.{Seen}
-use Rattle.recording.specs.declared.reading.Reading.{Reading}
-use Rattle.recording.specs.declared.reading.Reading.TheVariants.{Taken, End, Refused}
 use Rattle.recording.specs.Bytes.{bytes_left, byte_at, word_at}
-use Rattle.recording.specs.Tag.{tag_at, is_unknown, length_fits}
+use Rattle.recording.specs.Tag.{tag_at, length_fits}
 use Rattle.recording.specs.Field.{setup_field, field_at, value_refusal}
 use Rattle.recording.specs.Seen.{is_due}
-use Rattle.recording.specs.Reading.{read_at}
+use Rattle.recording.specs.Reading.{Reading, Taken, End, Refused, read_by, read_at}
 
 -- the number is another than 3
 abbrev Other : ℕ → Type 0
@@ -73,26 +71,26 @@ module _ (bytes : List ℕ) (are : (place : ℕ) → byte_at bytes place < 256) 
       eight_or_none (not (is_write card_blocks (word_at bytes value) ((size - 2) / 2)))
   value_not_three MoveTable value size = table_not_three value
   value_not_three SetFlags value size = eight_or_none (not (are_flags (byte_at bytes value)))
-  value_not_three Unknown value size = λ is. omega arith
 
   pub no_block_above_255 : (place : ℕ) (seen : Seen) → NotThree (read_at bytes place seen)
   unfolding read_at
   no_block_above_255 place seen =
-      by_test NotThree (eqb left 0) (λ _. tt) (λ _.
-      by_test NotThree (is_unknown tag) (λ _ is. omega arith) (λ _.
-      by_test NotThree (ltb left 3) (λ _ is. omega arith) (λ _.
-      by_test NotThree (not (length_fits tag size)) (λ _ is. omega arith) (λ _.
-      by_test NotThree (ltb left (3 + size)) (λ _ is. omega arith) (λ _.
-      by_test NotThree (not (is_due tag seen)) (λ _ is. omega arith) (λ _.
-      by_test NotThree (eqb (value_refusal card_blocks (field_at bytes tag (place + 3) size)) 0)
-      (λ _. tt)
-      (λ _. value_not_three tag (place + 3) size)))))))
+      by_test NotThree (eqb left 0) (λ _. tt) (λ _. read_not_three (tag_at bytes place))
     where
       left : ℕ
       left = bytes_left bytes place
 
-      tag : Tag
-      tag = tag_at bytes place
-
       size : ℕ
       size = word_at bytes (place + 1)
+
+      read_not_three : (tag : Option Tag) → NotThree (read_by tag bytes place seen)
+      read_not_three None = λ is. omega arith
+      read_not_three (Some tag) =
+          by_test NotThree (ltb left 3) (λ _ is. omega arith) (λ _.
+          by_test NotThree (not (length_fits tag size)) (λ _ is. omega arith) (λ _.
+          by_test NotThree (ltb left (3 + size)) (λ _ is. omega arith) (λ _.
+          by_test NotThree (not (is_due tag seen)) (λ _ is. omega arith) (λ _.
+          by_test NotThree
+          (eqb (value_refusal card_blocks (field_at bytes tag (place + 3) size)) 0)
+          (λ _. tt)
+          (λ _. value_not_three tag (place + 3) size)))))

@@ -4,6 +4,7 @@
 use mathlib.Core.Path.{◌≡◌, refl, sym}
 use mathlib.Core.Bool.{not}
 use mathlib.Core.List.{List, ◌++◌}
+use Rattle.std.proofs.Common.{Option, Some, None}
 use Prim.Native.Nat.{ℕ, zero, suc, ◌+◌}
 use native.Mathlib.Nat.{add_assoc}
 use native.Mathlib.Omega.{arith}
@@ -25,12 +26,11 @@ use Rattle.recording.specs.declared.field.Field.TheVariants.{
   MoveTable,
   SetFlags,
 }
-use Rattle.recording.specs.declared.reading.Reading.{Reading}
 use Rattle.recording.specs.Bytes.{bytes_left, byte_at, word_at, time_at, words_at}
-use Rattle.recording.specs.Tag.{tag_at, is_unknown, length_fits}
+use Rattle.recording.specs.Tag.{tag_at, length_fits}
 use Rattle.recording.specs.Field.{field_at, value_refusal}
 use Rattle.recording.specs.Seen.{is_due, seen_after}
-use Rattle.recording.specs.Reading.{read_at}
+use Rattle.recording.specs.Reading.{Reading, read_by, read_at}
 use Rattle.recording.specs.AsCoded.Pieces.{shifted_field, shifted}
 
 -- the shift is seen in no refusal
@@ -104,29 +104,13 @@ module _ (start : ℕ) (bytes : List ℕ) where
   field_of_drop tags.HostWrite value size = rw (word_of_drop value, add_assoc start value 2)
   field_of_drop tags.MoveTable value size = rw (byte_of_drop value)
   field_of_drop tags.SetFlags value size = rw (byte_of_drop value)
-  field_of_drop tags.Unknown value size = refl
 
   pub dropped_bytes : (place : ℕ) (seen : Seen)
       → read_at bytes (start + place) seen ≡ shifted start (read_at (drop start bytes) place seen)
   unfolding read_at
   dropped_bytes place seen =
-      rw (
-        same_left,
-        further 1,
-        further 3,
-        byte_of_drop place,
-        word_of_drop (place + 1),
-        field_of_drop tag (place + 3) size,
-        refusal_of_shifted start field,
-      )
-      (choice_under shift (eqb left 0) refl
-      (choice_under shift (is_unknown tag) refl
-      (choice_under shift (ltb left 3) refl
-      (choice_under shift (not (length_fits tag size)) refl
-      (choice_under shift (ltb left (3 + size)) refl
-      (choice_under shift (not (is_due tag seen)) refl
-      (choice_under shift (eqb (value_refusal card_blocks field) 0)
-      (rw (add_assoc start (place + 3) size)) refl)))))))
+      rw (same_left, byte_of_drop place)
+      (choice_under shift (eqb left 0) refl (read_of_drop (tag_at (drop start bytes) place)))
     where
       shift : Reading → Reading
       shift = shifted start
@@ -134,20 +118,37 @@ module _ (start : ℕ) (bytes : List ℕ) where
       left : ℕ
       left = bytes_left (drop start bytes) place
 
-      tag : Tag
-      tag = tag_at (drop start bytes) place
-
       size : ℕ
       size = word_at (drop start bytes) (place + 1)
 
-      field : Field
-      field = field_at (drop start bytes) tag (place + 3) size
+      field : Tag → Field
+      field tag = field_at (drop start bytes) tag (place + 3) size
 
       same_left : bytes_left bytes (start + place) ≡ left
       same_left = omega (arith, length-drop start bytes)
 
       further : (more : ℕ) → start + place + more ≡ start + (place + more)
       further = add_assoc start place
+
+      read_of_drop : (tag : Option Tag)
+          → read_by tag bytes (start + place) seen
+          ≡ shift (read_by tag (drop start bytes) place seen)
+      read_of_drop None = refl
+      read_of_drop (Some tag) =
+          rw (
+            same_left,
+            further 1,
+            further 3,
+            word_of_drop (place + 1),
+            field_of_drop tag (place + 3) size,
+            refusal_of_shifted start (field tag),
+          )
+          (choice_under shift (ltb left 3) refl
+          (choice_under shift (not (length_fits tag size)) refl
+          (choice_under shift (ltb left (3 + size)) refl
+          (choice_under shift (not (is_due tag seen)) refl
+          (choice_under shift (eqb (value_refusal card_blocks (field tag)) 0)
+          (rw (add_assoc start (place + 3) size)) refl)))))
 
 -- ---- the same with the bytes in front written out
 

@@ -1,6 +1,6 @@
 -- The laws of `specs/Tag.antt`: the sizes that fit each tag. Assumes nothing.
-use mathlib.Core.Path.{◌≡◌, sym}
-use mathlib.Core.Bool.{Bool, true, ◌&&◌, true≢false}
+use mathlib.Core.Path.{◌≡◌}
+use mathlib.Core.Bool.{true, ◌&&◌}
 use Prim.Native.Nat.{ℕ, ◌%◌, ◌≤◌}
 use native.Mathlib.Omega.{arith}
 use lib.Dec.{eqb, leb}
@@ -15,14 +15,8 @@ use Rattle.recording.specs.declared.tag.Tag.TheVariants.{
   HostWrite,
   MoveTable,
   SetFlags,
-  Unknown,
 }
 use Rattle.recording.specs.Tag.{length_fits}
-
--- the tag is the one that a `match` found
-pub fits_of_known : (fits : Bool) (tag known : Tag) (size : ℕ) → tag ≡ known
-    → fits ≡ length_fits known size → fits ≡ length_fits tag size
-fits_of_known fits tag known size is same = rw is same
 
 -- 2 + 2k, k 1 to 64
 pub record WriteSize (size : ℕ) : Type 0 where
@@ -53,4 +47,3 @@ size_at_most ReadQueue size is = omega (arith, eqb-true size 0 is)
 size_at_most HostWrite size is = (write_size size is).at_most
 size_at_most MoveTable size is = omega (arith, eqb-true size 1 is)
 size_at_most SetFlags size is = omega (arith, eqb-true size 1 is)
-size_at_most Unknown size is = absurd (true≢false (sym is))

@@ -3,8 +3,9 @@
 -- (`setup_seen_after`); a refusal names the field's place, by a number of the reader's
 -- (`refused_names_place`); the end is the end (`end_is_the_end`). Assumes nothing.
 use mathlib.Core.Path.{◌≡◌, refl, sym, subst}
-use mathlib.Core.Bool.{Bool, true, false, true≢false, not, ◌||◌}
+use mathlib.Core.Bool.{Bool, true, false, not, ◌||◌}
 use mathlib.Core.List.{List}
+use Rattle.std.proofs.Common.{Option, Some, None}
 use Prim.Native.Nat.{ℕ, ◌+◌, ◌≤◌, ◌<◌}
 use native.Mathlib.Omega.{arith}
 use lib.Dec.{eqb, ltb}
@@ -21,17 +22,14 @@ use Rattle.recording.specs.declared.tag.Tag.TheVariants.{
   HostWrite,
   MoveTable,
   SetFlags,
-  Unknown,
 }
 use Rattle.recording.specs.declared.field.Field.{Field}
 use Rattle.recording.specs.declared.seen.Seen.{Seen}
-use Rattle.recording.specs.declared.reading.Reading.{Reading}
-use Rattle.recording.specs.declared.reading.Reading.TheVariants.{Taken, End, Refused}
 use Rattle.recording.specs.Bytes.{bytes_left, word_at}
-use Rattle.recording.specs.Tag.{tag_at, is_unknown, length_fits}
+use Rattle.recording.specs.Tag.{tag_at, length_fits}
 use Rattle.recording.specs.Field.{is_setup, field_at, value_refusal, ValueThere}
 use Rattle.recording.specs.Seen.{is_due, seen_after}
-use Rattle.recording.specs.Reading.{read_at}
+use Rattle.recording.specs.Reading.{Reading, Taken, End, Refused, read_by, read_at}
 use Rattle.recording.proofs.TagLaws.{size_at_most}
 use Rattle.recording.proofs.FieldLaws.{by_refusal}
 
@@ -46,10 +44,11 @@ is_reader_number number =
 -- every test of the reader was passed
 pub record TakenAt (bytes : List ℕ) (place : ℕ) (seen : Seen) (field : Field) (next : ℕ) :
     Type 0 where
-  pub known : is_unknown (tag_at bytes place) ≡ false
-  pub there : ValueThere bytes (tag_at bytes place) (place + 3) (word_at bytes (place + 1))
-  pub due : is_due (tag_at bytes place) seen ≡ true
-  pub is_field : field ≡ field_at bytes (tag_at bytes place) (place + 3) (word_at bytes (place + 1))
+  pub tag : Tag
+  pub known : tag_at bytes place ≡ Some tag
+  pub there : ValueThere bytes tag (place + 3) (word_at bytes (place + 1))
+  pub due : is_due tag seen ≡ true
+  pub is_field : field ≡ field_at bytes tag (place + 3) (word_at bytes (place + 1))
   pub in_order : value_refusal card_blocks field ≡ 0
   pub is_next : next ≡ place + 3 + word_at bytes (place + 1)
 
@@ -72,26 +71,7 @@ pub reading_tells : (bytes : List ℕ) (place : ℕ) (seen : Seen)
 unfolding read_at
 reading_tells bytes place seen =
     by_test Claim (eqb left 0) (λ none. omega (arith, eqb-true left 0 none)) (λ some.
-    by_test Claim (is_unknown tag) (λ _. refused refl) (λ known.
-    by_test Claim (ltb left 3) (λ _. refused refl) (λ _.
-    by_test Claim (not (length_fits tag size)) (λ _. refused refl) (λ fits.
-    by_test Claim (ltb left (3 + size)) (λ _. refused refl) (λ whole.
-    by_test Claim (not (is_due tag seen)) (λ _. refused refl) (λ due.
-    by_test Claim (eqb (value_refusal card_blocks field) 0)
-    (λ in_order. record {
-      known = known;
-      there =
-          record {
-            fits = not-false (length_fits tag size) fits;
-            inside = omega (arith, ltb-false left (3 + size) whole);
-          };
-      due = not-false (is_due tag seen) due;
-      is_field = refl;
-      in_order = eqb-true (value_refusal card_blocks field) 0 in_order;
-      is_next = refl;
-    })
-    (λ refusal.
-    refused (numbered field (eqb-false (value_refusal card_blocks field) 0 refusal)))))))))
+    by_tag some (tag_at bytes place) refl)
   where
     Claim : Reading → Type 0
     Claim = Tells bytes place seen
@@ -99,14 +79,8 @@ reading_tells bytes place seen =
     left : ℕ
     left = bytes_left bytes place
 
-    tag : Tag
-    tag = tag_at bytes place
-
     size : ℕ
     size = word_at bytes (place + 1)
-
-    field : Field
-    field = field_at bytes tag (place + 3) size
 
     refused : {number : ℕ} → is_reader_number number ≡ true → RefusedAt place number place
     refused of_the_reader = record { names_place = refl; of_the_reader = of_the_reader }
@@ -116,6 +90,32 @@ reading_tells bytes place seen =
     numbered =
         by_refusal (λ number. (number ≡ 0 → ⊥) → is_reader_number number ≡ true)
         (λ some. absurd (some refl)) (λ _. refl) (λ _. refl) (λ _. refl) card_blocks
+
+    by_tag : eqb left 0 ≡ false → (tag : Option Tag) → tag_at bytes place ≡ tag
+        → Claim (read_by tag bytes place seen)
+    by_tag some None unknown = refused refl
+    by_tag some (Some tag) known =
+        let field : Field = field_at bytes tag (place + 3) size in
+        by_test Claim (ltb left 3) (λ _. refused refl) (λ _.
+        by_test Claim (not (length_fits tag size)) (λ _. refused refl) (λ fits.
+        by_test Claim (ltb left (3 + size)) (λ _. refused refl) (λ whole.
+        by_test Claim (not (is_due tag seen)) (λ _. refused refl) (λ due.
+        by_test Claim (eqb (value_refusal card_blocks field) 0)
+        (λ in_order. record {
+          tag = tag;
+          known = known;
+          there =
+              record {
+                fits = not-false (length_fits tag size) fits;
+                inside = omega (arith, ltb-false left (3 + size) whole);
+              };
+          due = not-false (is_due tag seen) due;
+          is_field = refl;
+          in_order = eqb-true (value_refusal card_blocks field) 0 in_order;
+          is_next = refl;
+        })
+        (λ refusal.
+        refused (numbered field (eqb-false (value_refusal card_blocks field) 0 refusal)))))))
 
 -- ---- where a reading ends, and whom it names
 
@@ -130,7 +130,6 @@ setup_by_tag bytes ReadQueue value size seen due = rw due
 setup_by_tag bytes HostWrite value size seen due = rw due
 setup_by_tag bytes MoveTable value size seen due = rw due
 setup_by_tag bytes SetFlags value size seen due = rw due
-setup_by_tag bytes Unknown value size seen due = absurd (true≢false (sym due))
 
 module _ (bytes : List ℕ) (place : ℕ) (seen : Seen) where
   pub taken_tells : {field : Field} {next : ℕ} → read_at bytes place seen ≡ Taken field next
@@ -143,7 +142,7 @@ module _ (bytes : List ℕ) (place : ℕ) (seen : Seen) where
   taken_within is =
       let told = taken_tells is in
       let small : word_at bytes (place + 1) ≤ 130 =
-      size_at_most (tag_at bytes place) (word_at bytes (place + 1)) told.there.fits in
+      size_at_most told.tag (word_at bytes (place + 1)) told.there.fits in
       record {
         moves_on = omega (arith, told.is_next);
         ends_inside = omega (arith, told.is_next, told.there.inside);
@@ -155,8 +154,7 @@ module _ (bytes : List ℕ) (place : ℕ) (seen : Seen) where
   setup_by_turn is =
       let told = taken_tells is in
       rw told.is_field
-      (setup_by_tag bytes (tag_at bytes place) (place + 3) (word_at bytes (place + 1)) seen
-      told.due)
+      (setup_by_tag bytes told.tag (place + 3) (word_at bytes (place + 1)) seen told.due)
 
   -- after a field that is taken a setup has been seen: it is one, or comes behind one
   pub setup_seen_after : {field : Field} {next : ℕ} → read_at bytes place seen ≡ Taken field next

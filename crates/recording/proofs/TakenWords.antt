@@ -6,9 +6,8 @@ use Prim.Native.Nat.{ℕ, ◌*◌, ◌≤◌}
 use native.Mathlib.Omega.{arith}
 use Rattle.recording.specs.declared.field.Field.TheVariants.{HostWrite}
 use Rattle.recording.specs.declared.seen.Seen.{Seen}
-use Rattle.recording.specs.declared.reading.Reading.TheVariants.{Taken}
 use Rattle.recording.specs.Bytes.{bytes_left, words_at}
-use Rattle.recording.specs.Reading.{read_at}
+use Rattle.recording.specs.Reading.{Taken, read_at}
 use Rattle.recording.proofs.TakenLaws.{Within, taken_within}
 use Rattle.recording.proofs.InOrder.{WriteInOrder, taken_in_order}
 use Rattle.recording.proofs.MoreBytes.{words_of_more}

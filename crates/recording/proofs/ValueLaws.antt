@@ -16,9 +16,8 @@ use Rattle.recording.specs.declared.field.Field.TheVariants.{
   SetFlags,
 }
 use Rattle.recording.specs.declared.seen.Seen.{Seen}
-use Rattle.recording.specs.declared.reading.Reading.TheVariants.{Taken}
 use Rattle.recording.specs.Seen.{seen_after}
-use Rattle.recording.specs.Reading.{read_at}
+use Rattle.recording.specs.Reading.{Taken, read_at}
 use Rattle.recording.specs.Value.{host_write, valued_at, field_of}
 use Rattle.recording.specs.AsCoded.Pieces.{shifted_field}
 use Rattle.recording.proofs.WordsLaws.{length_words_at}

@@ -11,8 +11,7 @@ use lib.ListN.{length}
 use borrow.Author.Tests.{eqb-true}
 use Rattle.rules.proofs.Clash.{clash}
 use Rattle.recording.specs.declared.seen.Seen.{Seen}
-use Rattle.recording.specs.declared.reading.Reading.TheVariants.{End, Refused}
-use Rattle.recording.specs.Reading.{read_at}
+use Rattle.recording.specs.Reading.{End, Refused, read_at}
 use Rattle.recording.specs.AsCoded.Pieces.{is_settled}
 use Rattle.recording.proofs.TakenLaws.{is_reader_number, refused_names_place}
 use Rattle.recording.proofs.MoreBytes.{settled_by_133}

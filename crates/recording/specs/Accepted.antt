@@ -3,9 +3,8 @@
 use Rattle.std.specs.Prelude.{◌≡◌, List, [], ◌∷◌, ◌++◌, ℕ, drop}
 use Rattle.recording.specs.declared.field.Field.{Field}
 use Rattle.recording.specs.declared.seen.Seen.{Seen}
-use Rattle.recording.specs.declared.reading.Reading.TheVariants.{Taken}
 use Rattle.recording.specs.Seen.{seen_after}
-use Rattle.recording.specs.Reading.{read_at}
+use Rattle.recording.specs.Reading.{Taken, read_at}
 use Rattle.recording.specs.Value.{Valued, valued_at, field_of}
 
 -- `TakesFields seen bytes fields left`: the reader, which has seen so much, takes these fields of

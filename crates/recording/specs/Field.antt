@@ -49,7 +49,6 @@ silence_field bytes value = Silence (byte_at bytes value) (time_at bytes (value 
 abbrev pub write_field : List ℕ → ℕ → ℕ → Field
 write_field bytes value size = HostWrite (word_at bytes value) (value + 2) ((size - 2) / 2)
 
--- an unknown tag has no field: the reader refuses it before, and what holds nothing stands for it
 unfoldable pub field_at : List ℕ → Tag → ℕ → ℕ → Field
 field_at bytes tags.Setup value size = setup_field bytes value
 field_at bytes tags.Word value size = word_field bytes value
@@ -58,7 +57,6 @@ field_at bytes tags.ReadQueue value size = ReadQueue
 field_at bytes tags.HostWrite value size = write_field bytes value size
 field_at bytes tags.MoveTable value size = MoveTable (byte_at bytes value)
 field_at bytes tags.SetFlags value size = SetFlags (byte_at bytes value)
-field_at bytes tags.Unknown value size = ReadQueue
 
 -- the value has a length of the tag's, and stands whole in the bytes
 pub record ValueThere (bytes : List ℕ) (tag : Tag) (value size : ℕ) : Type 0 where

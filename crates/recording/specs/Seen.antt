@@ -10,7 +10,6 @@ use Rattle.recording.specs.declared.tag.Tag.TheVariants.{
   HostWrite,
   MoveTable,
   SetFlags,
-  Unknown,
 }
 use Rattle.recording.specs.declared.seen.Seen.{Seen}
 use Rattle.recording.specs.declared.field.Field.{Field}
@@ -33,7 +32,6 @@ is_due ReadQueue seen = seen.setup
 is_due HostWrite seen = seen.setup
 is_due MoveTable seen = seen.setup
 is_due SetFlags seen = seen.setup
-is_due Unknown seen = false
 
 -- after a field that it takes
 abbrev pub seen_after : Field → Seen → Seen

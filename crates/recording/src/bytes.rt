@@ -6,17 +6,14 @@ ghost use Rattle.recording.specs.Bytes.{bytes_left, word_at, time_at};
 pub(crate) fn bytes_left(bytes: &[u8], place: usize) -> usize
     ensures { result ≡ bytes_left bytes.now place }
 {
-    if bytes.len() <= place {
-        return 0;
-    }
-    bytes.len() - place
+    bytes.len().saturating_sub(place)
 }
 
 // The number that two bytes spell.
 pub fn of_bytes(high: u8, low: u8) -> u16
     ensures { result ≡ high * 256 + low }
 {
-    (high as u16) * 256 + (low as u16)
+    u16::from_be_bytes([high, low])
 }
 
 pub(crate) fn word_at(bytes: &[u8], place: usize) -> u16
@@ -30,7 +27,10 @@ pub(crate) fn time_at(bytes: &[u8], place: usize) -> u32
     requires { place + 4 ≤ length bytes.now }
     ensures { result ≡ time_at bytes.now place }
 {
-    let high = word_at(bytes, place);
-    let low = word_at(bytes, place + 2);
-    (high as u32) * 65536 + (low as u32)
+    u32::from_be_bytes([
+        bytes[place],
+        bytes[place + 1],
+        bytes[place + 2],
+        bytes[place + 3],
+    ])
 }

@@ -1,6 +1,7 @@
 // The fields of a recording: what stands in the value of each tag. A field is a tag of one byte, a
 // length of two and a value of that length.
-ghost use Rattle.std.specs.Prelude.{◌≡◌, ◌+◌, ◌≤◌, length};
+ghost use Rattle.std.specs.Prelude.{◌≡◌, cond, ◌+◌, ◌≤◌, length};
+ghost use Rattle.refusals.specs.Number.{number_of, refused};
 ghost use Rattle.recording.specs.Field.{
   setup_field,
   word_field,
@@ -16,6 +17,7 @@ use crate::bytes;
 use crate::tag::Tag;
 use bus::limits::{ALL_FLAGS, ALL_MARKS, LAST_LINE, LAST_STATION};
 use card::host;
+use refusals::Refusal;
 
 // What a field holds, in the order of the tags 01 to 07.
 #[derive(Clone, Copy)]
@@ -54,34 +56,14 @@ impl Field {
     pub(crate) fn is_setup(self) -> bool
         ensures { result ≡ is_setup self }
     {
-        match self {
-            Field::Setup {
-                station: _,
-                table: _,
-                flags: _,
-            } => true,
-            Field::Word {
-                marks: _,
-                value: _,
-                time: _,
-            } => false,
-            Field::Silence { line: _, time: _ } => false,
-            Field::ReadQueue => false,
-            Field::HostWrite {
-                address: _,
-                first: _,
-                count: _,
-            } => false,
-            Field::MoveTable { table: _ } => false,
-            Field::SetFlags { flags: _ } => false,
-        }
+        matches!(self, Field::Setup { .. })
     }
 
-    // Refusals 2, 3 and 8 by what the field holds, in that order, on a card of so many blocks, and
-    // 0 for none. One byte cannot spell a table block above 255 today; the test for 3 stands where
-    // document 01's order has it.
-    pub(crate) fn refusal(self, blocks: u16) -> u8
-        ensures { result ≡ value_refusal blocks self }
+    // Refusals 2, 3 and 8 by what the field holds, in that order, on a card of so many blocks. One
+    // byte cannot spell a table block above 255 today; the test for 3 stands where document 01's
+    // order has it.
+    pub(crate) fn in_order(self, blocks: u16) -> Result<(), Refusal>
+        ensures { refused result ≡ value_refusal blocks self }
     {
         match self {
             Field::Setup {
@@ -89,58 +71,27 @@ impl Field {
                 table,
                 flags,
             } => {
-                if (station as u16) > LAST_STATION {
-                    return 2;
-                }
-                if (table as u16) >= blocks {
-                    return 3;
-                }
-                if (flags as u16) > ALL_FLAGS {
-                    return 8;
-                }
-                0
+                unless(station as u16 <= LAST_STATION, Refusal::Station)?;
+                unless((table as u16) < blocks, Refusal::TableBlock)?;
+                unless(flags as u16 <= ALL_FLAGS, Refusal::Value)
             }
-            Field::Word {
-                marks,
-                value: _,
-                time: _,
-            } => {
-                if marks > ALL_MARKS {
-                    return 8;
-                }
-                0
+            Field::Word { marks, .. } => unless(marks <= ALL_MARKS, Refusal::Value),
+            Field::Silence { line, .. } => unless(line <= LAST_LINE, Refusal::Value),
+            Field::ReadQueue => Ok(()),
+            Field::HostWrite { address, count, .. } => {
+                unless(host::is_write(blocks, address, count), Refusal::Value)
             }
-            Field::Silence { line, time: _ } => {
-                if line > LAST_LINE {
-                    return 8;
-                }
-                0
-            }
-            Field::ReadQueue => 0,
-            Field::HostWrite {
-                address,
-                first: _,
-                count,
-            } => {
-                if !host::is_write(blocks, address, count) {
-                    return 8;
-                }
-                0
-            }
-            Field::MoveTable { table } => {
-                if (table as u16) >= blocks {
-                    return 3;
-                }
-                0
-            }
-            Field::SetFlags { flags } => {
-                if (flags as u16) > ALL_FLAGS {
-                    return 8;
-                }
-                0
-            }
+            Field::MoveTable { table } => unless((table as u16) < blocks, Refusal::TableBlock),
+            Field::SetFlags { flags } => unless(flags as u16 <= ALL_FLAGS, Refusal::Value),
         }
     }
+}
+
+// A refusal, unless what is tested is so.
+fn unless(is_so: bool, refusal: Refusal) -> Result<(), Refusal>
+    ensures { refused result ≡ cond is_so 0 (number_of refusal) }
+{
+    if is_so { Ok(()) } else { Err(refusal) }
 }
 
 fn setup_field(bytes: &[u8], value: usize) -> Field
@@ -186,8 +137,8 @@ fn write_field(bytes: &[u8], value: usize, size: usize) -> Field
     }
 }
 
-// The field of a tag. Its value stands whole in the bytes, and has a length of the tag's, so that
-// the tag is known.
+// The field of a tag, where its value stands whole in the bytes and has a length of the tag's.
+#[tactic(auto, unfolding(crate::specs::Tag::length_fits, crate::specs::Field::field_at))]
 pub(crate) fn field_at(bytes: &[u8], tag: Tag, value: usize, size: usize) -> Field
     requires { ValueThere bytes.now tag value size }
     ensures { result ≡ field_at bytes.now tag value size }
@@ -204,6 +155,5 @@ pub(crate) fn field_at(bytes: &[u8], tag: Tag, value: usize, size: usize) -> Fie
         Tag::SetFlags => Field::SetFlags {
             flags: bytes[value],
         },
-        Tag::Unknown => Field::ReadQueue,
     }
 }

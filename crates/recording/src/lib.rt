@@ -15,6 +15,6 @@ mod words;
 
 pub use bytes::of_bytes;
 pub use field::Field;
-pub use reading::{Reading, read_field};
+pub use reading::{Refused, Taken, read_field};
 pub use seen::Seen;
 pub use words::{Found, find_word, write_words};

@@ -1,73 +1,67 @@
 // The reader: what stands at a place of a recording, a field or a refusal, in the reader's order.
-ghost use Rattle.std.specs.Prelude.{◌≡◌};
-ghost use Rattle.recording.specs.Reading.{read_at};
+ghost use Rattle.std.specs.Prelude.{◌≡◌, ◌<◌, length};
+ghost use Rattle.recording.specs.Reading.{reading, reading_there, read_at};
 
 use crate::field::Field;
 use crate::seen::Seen;
 use crate::{bytes, field, tag};
 use card::place::CARD_BLOCKS;
+use refusals::Refusal;
 
-// What is found at a place of the input.
+// A whole field, and where the next one begins.
 #[derive(Clone, Copy)]
-pub enum Reading {
-    // a whole field, and where the next one begins
-    Taken { field: Field, next: usize },
-    // nothing is left
-    End,
-    // the number of the refusal, and the field's first byte
-    Refused { number: u8, place: usize },
+pub struct Taken {
+    pub field: Field,
+    pub next: usize,
 }
 
-// The field whose tag stands at a place, by what has been seen before.
-pub fn read_field(bytes: &[u8], place: usize, seen: Seen) -> Reading
-    ensures { result ≡ read_at bytes.now place seen }
+// Why a field is refused, and its first byte.
+#[derive(Clone, Copy)]
+pub struct Refused {
+    pub refusal: Refusal,
+    pub place: usize,
+}
+
+// The field whose tag stands at a place, by what has been seen before, or none where nothing is
+// left.
+pub fn read_field(bytes: &[u8], place: usize, seen: Seen) -> Result<Option<Taken>, Refused>
+    ensures { reading result ≡ read_at bytes.now place seen }
 {
-    let left = bytes::bytes_left(bytes, place);
-    if left == 0 {
-        return Reading::End;
+    if bytes.len() <= place {
+        return Ok(None);
     }
-    let tag = tag::tag_of(bytes[place]);
-    if tag.is_unknown() {
-        return Reading::Refused {
-            number: 6,
-            place: place,
-        };
+    match field_there(bytes, place, seen) {
+        Ok(taken) => Ok(Some(taken)),
+        Err(refusal) => Err(Refused { refusal, place }),
     }
+}
+
+// The same where a byte is left.
+fn field_there(bytes: &[u8], place: usize, seen: Seen) -> Result<Taken, Refusal>
+    requires { place < length bytes.now }
+    ensures { reading_there place result ≡ read_at bytes.now place seen }
+{
+    let left = bytes.len() - place;
+    let Some(tag) = tag::tag_of(bytes[place]) else {
+        return Err(Refusal::Tag);
+    };
     if left < 3 {
-        return Reading::Refused {
-            number: 5,
-            place: place,
-        };
+        return Err(Refusal::Cut);
     }
     let size = bytes::word_at(bytes, place + 1) as usize;
     if !tag.length_fits(size) {
-        return Reading::Refused {
-            number: 7,
-            place: place,
-        };
+        return Err(Refusal::Length);
     }
     if left < 3 + size {
-        return Reading::Refused {
-            number: 5,
-            place: place,
-        };
+        return Err(Refusal::Cut);
     }
     if !seen.is_due(tag) {
-        return Reading::Refused {
-            number: 9,
-            place: place,
-        };
+        return Err(Refusal::Order);
     }
     let field = field::field_at(bytes, tag, place + 3, size);
-    let number = field.refusal(CARD_BLOCKS);
-    if number != 0 {
-        return Reading::Refused {
-            number: number,
-            place: place,
-        };
-    }
-    Reading::Taken {
-        field: field,
+    field.in_order(CARD_BLOCKS)?;
+    Ok(Taken {
+        field,
         next: place + 3 + size,
-    }
+    })
 }

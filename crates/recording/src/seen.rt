@@ -23,17 +23,7 @@ impl Seen {
     pub(crate) fn is_due(self, tag: Tag) -> bool
         ensures { result ≡ is_due tag self }
     {
-        let setup = self.setup;
-        match tag {
-            Tag::Setup => !setup,
-            Tag::Word => setup,
-            Tag::Silence => setup,
-            Tag::ReadQueue => setup,
-            Tag::HostWrite => setup,
-            Tag::MoveTable => setup,
-            Tag::SetFlags => setup,
-            Tag::Unknown => false,
-        }
+        self.setup != matches!(tag, Tag::Setup)
     }
 
     // What it has seen after a field that it takes.
@@ -41,7 +31,7 @@ impl Seen {
         ensures { result ≡ seen_after field self }
     {
         Seen {
-            setup: field.is_setup() | self.setup,
+            setup: field.is_setup() || self.setup,
         }
     }
 }

@@ -1,69 +1,46 @@
 // Words that a recording holds: a word field that is looked for by its marks, and the words of a
 // host write.
-ghost use Rattle.std.specs.Prelude.{◌≡◌, ◌*◌, ◌≤◌, length};
-ghost use Rattle.std.proofs.lemmas.List.Edits.{sets};
-ghost use Rattle.recording.specs.Bytes.{bytes_left, words_at, with_written};
+ghost use Rattle.std.specs.Prelude.{◌≡◌};
+ghost use Rattle.recording.specs.Bytes.{with_written};
 ghost use Rattle.recording.specs.AsCoded.Found.{word_found};
 
-use crate::{bytes, tag};
-use card::host;
+use crate::bytes;
+use crate::tag::WORD_TAG;
+use card::host::MOST_WRITTEN;
 
-// What is found where a word field with certain marks is looked for.
+// A word field that was looked for: its value, and where the next field begins.
 #[derive(Clone, Copy)]
-pub enum Found {
-    // its value, and where the next field begins
-    Value { value: u16, next: usize },
-    // no whole such field
-    Nothing,
+pub struct Found {
+    pub value: u16,
+    pub next: usize,
 }
 
-// Looks for a word field with these marks alone. A row of such fields is read faster so.
-pub fn find_word(bytes: &[u8], place: usize, marks: u8) -> Found
+// Looks for a whole word field with these marks alone. A row of such fields is read faster so.
+pub fn find_word(bytes: &[u8], place: usize, marks: u8) -> Option<Found>
     ensures { result ≡ word_found bytes.now place marks }
 {
-    if bytes::bytes_left(bytes, place) < 10 {
-        return Found::Nothing;
-    }
-    let tag = bytes[place];
-    let high = bytes[place + 1];
-    let low = bytes[place + 2];
-    let found = bytes[place + 3];
-    let starts = (tag == tag::WORD_TAG) & (high == 0) & (low == 7) & (found == marks);
-    if !starts {
-        return Found::Nothing;
-    }
-    Found::Value {
-        value: bytes::word_at(bytes, place + 4),
-        next: place + 10,
+    match bytes.get(place..)? {
+        [WORD_TAG, 0, 7, found, high, low, _, _, _, _, ..] if *found == marks => Some(Found {
+            value: bytes::of_bytes(*high, *low),
+            next: place + 10,
+        }),
+        _ => None,
     }
 }
 
-// ---- the words of a host write
-
-fn copy_all(bytes: &[u8], first: usize, count: usize, words: &mut [u16])
-    requires { (count ≤ length words.old) × (2 * count ≤ bytes_left bytes.now first) }
-    ensures { words.new
-        ≡ sets words.old 0 (words_at bytes.now first count) }
-{
-    let mut word: usize = 0;
-    while word < count {
-        words[word] = bytes::word_at(bytes, first + 2 * word);
-        word += 1;
-    }
-}
-
-// The words of a field that writes, 64 at the most, go from the bytes to a memory.
+// The words of a field that writes, 64 at the most, go from the bytes to a memory, as far as it
+// goes.
 pub fn write_words(bytes: &[u8], first: usize, count: usize, ram: &mut [u16], address: u16)
     ensures { ram.new
         ≡ with_written ram.old address bytes.now first count }
 {
-    if count > 64 {
+    if count > MOST_WRITTEN || bytes::bytes_left(bytes, first) < 2 * count {
         return;
     }
-    if bytes::bytes_left(bytes, first) < 2 * count {
-        return;
+    let start = address as usize;
+    for word in 0..count {
+        if start + word < ram.len() {
+            ram[start + word] = bytes::word_at(bytes, first + 2 * word);
+        }
     }
-    let mut words: [u16; 64] = [0; 64];
-    copy_all(bytes, first, count, &mut words);
-    host::write_words(ram, address, &words[0..count]);
 }

@@ -3,6 +3,7 @@
 use mathlib.Core.Path.{◌≡◌, refl}
 use mathlib.Core.Bool.{Bool, true, false}
 use mathlib.Core.List.{List}
+use Rattle.std.proofs.Common.{Option, Some, None}
 use Prim.Native.Nat.{ℕ, zero, suc, ◌+◌, ◌≤◌}
 use native.Mathlib.Omega.{arith}
 use lib.ListN.{length}
@@ -10,8 +11,7 @@ use Rattle.bus.specs.Limits.{all_marks}
 use Rattle.bus.specs.Word.{word_of}
 use Rattle.bus.specs.DataWords.{DataWord, DataWords, no_words, a_word}
 use Rattle.recording.specs.declared.words.Found.{Found}
-use Rattle.recording.specs.declared.words.Found.TheVariants.{Value, Nothing}
-use Rattle.recording.specs.AsCoded.Found.{word_found}
+use Rattle.recording.specs.AsCoded.Found.{found, word_found}
 use Rattle.recording.specs.Seen.{setup_seen}
 use Rattle.recording.proofs.FoundLaws.{found_moves_on}
 use Rattle.rows.specs.Row.{marks_on, found_then, words_found}
@@ -22,7 +22,7 @@ marks_few false = omega arith
 
 -- a word that is found moves on by ten bytes
 pub found_next : (bytes : List ℕ) (line : Bool) (at value next : ℕ)
-    → word_found bytes at (marks_on line) ≡ Value value next → next ≡ at + 10
+    → word_found bytes at (marks_on line) ≡ Some (found value next) → next ≡ at + 10
 found_next bytes line at value next is =
     found_moves_on bytes at (marks_on line) (marks_few line) setup_seen refl is
 
@@ -40,17 +40,17 @@ module _ (bytes : List ℕ) (line : Bool) where
   found_are_data zero at = no_words
   found_are_data (suc fuel) at = go (found_are_data fuel) (word_found bytes at (marks_on line))
     where
-      go : ((next : ℕ) → DataWords line (words_found fuel bytes line next)) → (found : Found)
-          → DataWords line (found_then found (words_found fuel bytes line) bytes line at)
-      go shorter Nothing = no_words
-      go shorter (Value value next) = a_word (is_data_word line value _) (shorter next)
+      go : ((next : ℕ) → DataWords line (words_found fuel bytes line next)) → (there : Option Found)
+          → DataWords line (found_then there (words_found fuel bytes line) bytes line at)
+      go shorter None = no_words
+      go shorter (Some word) = a_word (is_data_word line word.value _) (shorter word.next)
 
   pub found_at_most : (fuel at : ℕ) → length (words_found fuel bytes line at) ≤ fuel
   unfolding words_found
   found_at_most zero at = omega arith
   found_at_most (suc fuel) at = go (found_at_most fuel) (word_found bytes at (marks_on line))
     where
-      go : ((next : ℕ) → length (words_found fuel bytes line next) ≤ fuel) → (found : Found)
-          → length (found_then found (words_found fuel bytes line) bytes line at) ≤ suc fuel
-      go shorter Nothing = omega arith
-      go shorter (Value value next) = omega (arith, shorter next)
+      go : ((next : ℕ) → length (words_found fuel bytes line next) ≤ fuel) → (there : Option Found)
+          → length (found_then there (words_found fuel bytes line) bytes line at) ≤ suc fuel
+      go shorter None = omega arith
+      go shorter (Some word) = omega (arith, shorter word.next)

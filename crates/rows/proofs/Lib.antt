@@ -3,11 +3,9 @@
 --     StoreLaws     how the code stores them
 --     TakenLaws     what a row leaves
 --     RowTurns      they are as many turns of a run
---     LoopLaws      the loop of a call that takes rows
 --     Determined    the public contract allows one outcome alone
 pub mod FoundLaws
 pub mod StoreLaws
 pub mod TakenLaws
 pub mod RowTurns
-pub mod LoopLaws
 pub mod Determined

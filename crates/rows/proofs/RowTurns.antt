@@ -4,18 +4,19 @@ use mathlib.Core.Path.{◌≡◌, refl, sym, ap, ◌∙◌}
 use mathlib.Core.Logic.{◌≢◌}
 use mathlib.Core.Bool.{Bool}
 use mathlib.Core.List.{List, [], ◌∷◌}
+use Rattle.std.proofs.Common.{Option, Some, None}
 use Prim.Native.Nat.{ℕ, zero, suc, ◌+◌, ◌-◌, ◌*◌, ◌≤◌, ◌<◌, ◌^◌}
 use native.Mathlib.Omega.{arith}
 use lib.ListN.{length}
 use Rattle.bus.specs.declared.word.Word.{Word}
 use Rattle.recording.specs.declared.words.Found.{Found}
-use Rattle.recording.specs.declared.words.Found.TheVariants.{Value, Nothing}
-use Rattle.recording.specs.AsCoded.Found.{word_found}
+use Rattle.recording.specs.AsCoded.Found.{found, word_found}
 use Rattle.lines.specs.Written.{line_room}
 use Rattle.pieces.specs.LastLine.{counted}
 use Rattle.pieces.specs.Course.{Course}
 use Rattle.pieces.specs.AsCoded.Window.{Passed, passing, turn, turns}
-use Rattle.pieces.proofs.LineLaws.{nothing_written}
+use Rattle.pieces.specs.AsCoded.Runner.{going_at, TurnsTaken}
+use Rattle.lines.proofs.LineLaws.{nothing_written}
 use Rattle.pieces.proofs.TurnLaws.{turn_by, one_turn}
 use Rattle.rows.specs.declared.Row.{Row}
 use Rattle.rows.specs.declared.Taken.{Taken}
@@ -31,7 +32,7 @@ use Rattle.rows.specs.Row.{
   taken_as,
   row_taken,
 }
-use Rattle.rows.specs.Turns.{going_at, TurnsTaken, Hearing}
+use Rattle.rows.specs.Turns.{Hearing}
 use Rattle.rows.proofs.FoundLaws.{found_next, is_data_word}
 use Rattle.rows.proofs.TakenLaws.{found_few, some_taken}
 
@@ -61,7 +62,7 @@ module _ {Run Machine : Type 0} {course : Course Run} {run : Machine → ℕ →
     among at old fields offset = going_at (run old fields offset) at put out
 
     word_is_turn : (more at : ℕ) (old : Machine) (fields offset value next : ℕ)
-        → Wants line (suc more) old → word_found window at (marks_on line) ≡ Value value next
+        → Wants line (suc more) old → word_found window at (marks_on line) ≡ Some (found value next)
         → turn course window last (among at old fields offset)
         ≡ among next (hears (word_there window line at value ∷ []) old)
         (counted (fields + 1)) (counted (offset + 10))
@@ -69,7 +70,7 @@ module _ {Run Machine : Type 0} {course : Course Run} {run : Machine → ℕ →
     word_is_turn more at old fields offset value next wants is =
         sym (turn_by course window last (among at old fields offset) enough
         (hearing.is_met line more old fields offset window at value next wants is))
-        ∙ rw (← nothing_written out put)
+        ∙ rw (← nothing_written line_room out put)
 
     -- behind so many words
     abbrev behind_all : List Word → ℕ → Machine → ℕ → ℕ → Passed Run
@@ -106,17 +107,19 @@ module _ {Run Machine : Type 0} {course : Course Run} {run : Machine → ℕ →
             (behind_all (words_found fuel window line at') at' old' fields' offset')
             ≡ turns course (length (words_found fuel window line at') + left) window last
             (among at' old' fields' offset'))
-            → (found : Found) → word_found window at (marks_on line) ≡ found
-            → (length (found_then found (words_found fuel window line) window line at) ≡ 0
+            → (there : Option Found) → word_found window at (marks_on line) ≡ there
+            → (length (found_then there (words_found fuel window line) window line at) ≡ 0
             → Counts fields offset)
             → turns course left window last
-            (behind_all (found_then found (words_found fuel window line) window line at)
+            (behind_all (found_then there (words_found fuel window line) window line at)
             at old fields offset)
             ≡ turns course
-            (length (found_then found (words_found fuel window line) window line at) + left)
+            (length (found_then there (words_found fuel window line) window line at) + left)
             window last (among at old fields offset)
-        go shorter Nothing is none = no_word left at old fields offset (none refl)
-        go shorter (Value value next) is none =
+        go shorter None is none = no_word left at old fields offset (none refl)
+        go shorter (Some word) is none =
+            let value : ℕ = word.value in
+            let next : ℕ = word.next in
             let heard : Word = word_there window line at value in
             let new : Machine = hears (heard ∷ []) old in
             let rest : List Word = words_found fuel window line next in

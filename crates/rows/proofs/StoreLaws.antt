@@ -2,6 +2,7 @@
 use mathlib.Core.Path.{◌≡◌, refl, sym, ◌∙◌}
 use mathlib.Core.Bool.{Bool}
 use mathlib.Core.List.{List, [], ◌∷◌}
+use Rattle.std.proofs.Common.{Option, Some, None}
 use Prim.Native.Nat.{ℕ, suc, ◌+◌, ◌-◌, ◌*◌, ◌≤◌, ◌<◌}
 use native.Mathlib.Omega.{arith}
 use lib.ListN.{length}
@@ -9,8 +10,7 @@ use Rattle.bus.specs.declared.word.Word.{Word}
 use Rattle.card.specs.declared.place.Block.{Block}
 use Rattle.card.specs.Memory.{the_cell, with_cell, with_cells}
 use Rattle.recording.specs.declared.words.Found.{Found}
-use Rattle.recording.specs.declared.words.Found.TheVariants.{Value, Nothing}
-use Rattle.recording.specs.AsCoded.Found.{word_found}
+use Rattle.recording.specs.AsCoded.Found.{found, word_found}
 use Rattle.rows.specs.declared.Row.{Row}
 use Rattle.rows.specs.Row.{marks_on, word_there, words_found, Stored, stored, behind, row_stored}
 use Rattle.rows.proofs.FoundLaws.{found_next}
@@ -62,15 +62,15 @@ module _ (bytes : List ℕ) (line : Bool) (block : Block) (end : ℕ) where
         let none : end - cell ≡ 0 = omega (arith, all) in
         sym (behind_none block end cell at ram) ∙ (rw none at so_far.leads)
 
-    module _ (marks : ℕ) (found : Found) (is_marks : marks ≡ marks_on line) (more : cell < end)
-        (is_found : found ≡ word_found bytes at marks) where
+    module _ (marks : ℕ) (there : Option Found) (is_marks : marks ≡ marks_on line)
+        (more : cell < end) (is_found : there ≡ word_found bytes at marks) where
       fewer : end - cell ≡ suc (end - (cell + 1))
       fewer = omega (arith, more)
 
-      at_marks : word_found bytes at (marks_on line) ≡ found
+      at_marks : word_found bytes at (marks_on line) ≡ there
       at_marks = sym (rw is_marks at is_found)
 
-      pub row_goes_on : (value next : ℕ) (ram' : List ℕ) → found ≡ Value value next
+      pub row_goes_on : (value next : ℕ) (ram' : List ℕ) → there ≡ Some (found value next)
           → ram' ≡ with_cell ram block (the_cell cell) value → length ram' ≡ length ram
           → RowSoFar bytes line block end cell₀ at₀ ram₀ (cell + 1) next ram'
       unfolding words_found
@@ -86,7 +86,7 @@ module _ (bytes : List ℕ) (line : Bool) (block : Block) (end : ℕ) where
             ram_as_long = long ∙ so_far.ram_as_long;
           }
 
-      pub row_stops : found ≡ Nothing
+      pub row_stops : there ≡ None
           → reached cell at ram ≡ row_stored bytes at₀ line (row block cell₀ end) ram₀
       unfolding words_found
       row_stops is =

@@ -2,13 +2,13 @@
 -- nothing.
 use mathlib.Core.Path.{◌≡◌, refl, sym, ap, ◌∙◌}
 use mathlib.Core.Logic.{◌≢◌}
-use mathlib.Core.Bool.{Bool, true, false, not, ◌&&◌}
+use mathlib.Core.Bool.{Bool, true, false, ◌&&◌}
 use mathlib.Core.List.{List}
 use Prim.Native.Nat.{ℕ, ◌+◌, ◌-◌, ◌≤◌, ◌<◌}
 use native.Mathlib.Omega.{arith}
 use lib.Dec.{leb, ltb}
 use lib.ListN.{length}
-use borrow.Author.Tests.{leb-true, ltb-true, not-true, not-false}
+use borrow.Author.Tests.{leb-true, ltb-true}
 use Rattle.rules.proofs.Empty.{no_entries}
 use Rattle.rules.proofs.Halves.{first_of_both, second_of_both}
 use Rattle.bus.specs.declared.word.Word.{Word}
@@ -64,13 +64,13 @@ module _ (window : List ℕ) (line setup : Bool) (room most at : ℕ) (row : Row
 
   -- ---- how the code comes to it
 
-  pub not_taken : not (may_take row setup room most) ≡ true
+  pub not_taken : may_take row setup room most ≡ false
       → row_left (record { words = 0; cell = row.cell; at = at; left = most }) ram
       ≡ row_taken window at line setup room most row ram
   unfolding row_taken
-  not_taken other = rw (not-true (may_take row setup room most) other)
+  not_taken other = rw other
 
-  module _ (ram' : List ℕ) (reach : Reach) (able : not (may_take row setup room most) ≡ false)
+  module _ (ram' : List ℕ) (reach : Reach) (able : may_take row setup room most ≡ true)
       (is_stored : stored reach ram' ≡ row_stored window at line row ram) where
     longer : reach.cell ≡ row.cell + length found
     longer = ap (λ (any : Stored). any.reach.cell) is_stored
@@ -80,7 +80,7 @@ module _ (window : List ℕ) (line setup : Bool) (room most at : ℕ) (row : Row
 
     pub words_fit : reach.cell - row.cell ≤ most
     words_fit =
-        let tells = able_tells row setup room most (not-false _ able) in
+        let tells = able_tells row setup room most able in
         omega (arith, longer, found_few window line row at, tells.many)
 
     pub words_taken_lem : (words left : ℕ) → words ≡ reach.cell - row.cell → left ≡ most - words
@@ -94,7 +94,7 @@ module _ (window : List ℕ) (line setup : Bool) (room most at : ℕ) (row : Row
     unfolding row_taken
     words_taken_lem words left is_words is_left =
         let as_many : words ≡ length found = omega (arith, is_words, longer) in
-        rw (not-false (may_take row setup room most) able, is_left, as_many)
+        rw (able, is_left, as_many)
         (ap (λ (new : Stored). taken_as (length found) most new) is_stored)
 
   -- ---- what it tells

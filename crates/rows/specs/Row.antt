@@ -4,6 +4,9 @@ use Rattle.std.specs.Prelude.{
   Bool,
   cond,
   ◌&&◌,
+  Option,
+  Some,
+  None,
   List,
   [],
   ◌∷◌,
@@ -22,7 +25,6 @@ use Rattle.bus.specs.Word.{word_of}
 use Rattle.bus.specs.DataWords.{values_of}
 use Rattle.card.specs.Memory.{with_cells}
 use Rattle.recording.specs.declared.words.Found.{Found}
-use Rattle.recording.specs.declared.words.Found.TheVariants.{Value, Nothing}
 use Rattle.recording.specs.Bytes.{time_at}
 use Rattle.recording.specs.AsCoded.Found.{word_found}
 use Rattle.lines.specs.Written.{line_room}
@@ -41,9 +43,10 @@ abbrev pub word_there : List ℕ → Bool → ℕ → ℕ → Word
 word_there bytes line at value = word_of (marks_on line) value (time_at bytes (at + 6))
 
 -- a word that is found, and what is found behind it
-abbrev pub found_then : Found → (ℕ → List Word) → List ℕ → Bool → ℕ → List Word
-found_then (Value value next) rest bytes line at = word_there bytes line at value ∷ rest next
-found_then Nothing rest bytes line at = []
+abbrev pub found_then : Option Found → (ℕ → List Word) → List ℕ → Bool → ℕ → List Word
+found_then (Some found) rest bytes line at =
+    word_there bytes line at found.value ∷ rest found.next
+found_then None rest bytes line at = []
 
 -- the data words on a line that stand next, so many at the most
 unfoldable pub words_found : ℕ → List ℕ → Bool → ℕ → List Word

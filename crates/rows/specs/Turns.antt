@@ -1,29 +1,12 @@
--- What a row of data words is to a run: as many turns, and nothing is printed. Definitions only.
--- Assumes nothing.
-use Rattle.std.specs.Prelude.{◌≡◌, Bool, List, [], ◌∷◌, ℕ, suc, ◌+◌, ◌-◌, ◌≤◌, ◌<◌, length}
+-- What a row of data words is to a run: as many turns, and nothing is printed (`TurnsTaken` of
+-- `pieces`). Definitions only. Assumes nothing.
+use Rattle.std.specs.Prelude.{◌≡◌, Bool, Some, List, [], ◌∷◌, ℕ, suc, ◌+◌}
 use Rattle.bus.specs.declared.word.Word.{Word}
 use Rattle.bus.specs.DataWords.{DataWord}
-use Rattle.recording.specs.declared.words.Found.TheVariants.{Value}
-use Rattle.recording.specs.AsCoded.Found.{word_found}
-use Rattle.pieces.specs.declared.stop.Stop.TheVariants.{Going}
+use Rattle.recording.specs.AsCoded.Found.{found, word_found}
 use Rattle.pieces.specs.LastLine.{counted}
 use Rattle.pieces.specs.Course.{taken, Course}
-use Rattle.pieces.specs.AsCoded.Window.{Passed, turns}
 use Rattle.rows.specs.Row.{marks_on, word_there}
-
--- a run at a place of the window, that goes on
-abbrev pub going_at : {Run : Type 0} → Run → ℕ → ℕ → List ℕ → Passed Run
-going_at old at put out = record { run = old; at = at; put = put; out = out; stop = Going }
-
--- some turns are taken at once: those that are left lead where all of them led, and one is left at
--- least
-pub record TurnsTaken {Run : Type 0} (course : Course Run) (window : List ℕ) (room most : ℕ)
-    (old : Run) (at : ℕ) (left : ℕ) (new : Run) (next : ℕ) : Type 0 where
-  pub fewer : left ≤ most
-  pub some_left : 0 < most → 0 < left
-  pub leads : (last : Bool) (put : ℕ) (out : List ℕ) → room ≡ length out - put
-      → turns course left window last (going_at new next put out)
-      ≡ turns course most window last (going_at old at put out)
 
 -- what a program brings whose runs take rows: its run by what hears the words and by its counts,
 -- what words do to that, and when so many words are wanted on a line
@@ -36,7 +19,7 @@ pub record Hearing {Run Machine : Type 0} (course : Course Run) (run : Machine �
   -- a data word that is wanted is a field that prints nothing, and one word fewer is wanted then
   pub is_met : (line : Bool) (more : ℕ) (old : Machine) (fields offset : ℕ) (window : List ℕ)
       (at value next : ℕ) → Wants line (suc more) old
-      → word_found window at (marks_on line) ≡ Value value next
+      → word_found window at (marks_on line) ≡ Some (found value next)
       → course.meets (run old fields offset) window at
       ≡ taken next [] (run (hears (word_there window line at value ∷ []) old)
       (counted (fields + 1)) (counted (offset + 10)))

@@ -4,13 +4,12 @@
 #![tactic(auto)]
 
 ghost use Rattle.std.specs.Prelude.{◌≡◌};
-ghost use Rattle.rows.specs.Row.{marks_on, stored, row_stored, row_left, row_taken};
+ghost use Rattle.rows.specs.Row.{marks_on, stored, row_stored, may_take, row_left, row_taken};
 
 use card::memory;
 use card::place::{Block, Cell};
 use lines;
 use recording;
-use recording::Found;
 
 // Where the words of a row go.
 #[derive(Clone, Copy)]
@@ -53,20 +52,24 @@ impl Row {
             ≡ row_stored bytes.now place line self ram.old }
     {
         let marks = marks_on(line);
-        let block = self.block;
-        let end = self.end;
         let mut cell = self.cell;
         let mut at = place;
-        while cell < end {
-            let found = recording::find_word(bytes, at, marks);
-            let Found::Value { value, next } = found else {
-                break;
-            };
-            memory::write_cell(ram, block, Cell(cell), value);
+        while cell < self.end
+            && let Some(found) = recording::find_word(bytes, at, marks)
+        {
+            memory::write_cell(ram, self.block, Cell(cell), found.value);
             cell += 1;
-            at = next;
+            at = found.next;
         }
-        Reach { cell: cell, at: at }
+        Reach { cell, at }
+    }
+
+    // Whether words may be taken: after a setup, with room for a line, where more turns are left
+    // than the row has words, and if one is wanted.
+    fn may_take(self, setup: bool, room: usize, most: u64) -> bool
+        ensures { result ≡ may_take self setup room most }
+    {
+        setup && lines::LINE_ROOM <= room && (self.end as u64) < most && self.cell < self.end
     }
 
     // Takes the data words on a line that stand next, as many as are wanted: after a setup, with
@@ -84,11 +87,7 @@ impl Row {
         ensures { row_left result ram.new
             ≡ row_taken bytes.now place line setup room most self ram.old }
     {
-        let able = setup
-            & (lines::LINE_ROOM <= room)
-            & ((self.end as u64) < most)
-            & (self.cell < self.end);
-        if !able {
+        if !self.may_take(setup, room, most) {
             return Taken {
                 words: 0,
                 cell: self.cell,
@@ -99,7 +98,7 @@ impl Row {
         let reach = self.store(ram, bytes, place, line);
         let words = reach.cell - self.cell;
         Taken {
-            words: words,
+            words,
             cell: reach.cell,
             at: reach.at,
             left: most - (words as u64),

@@ -10,12 +10,10 @@ use Rattle.card.specs.Memory.{card_words, the_block}
 use Rattle.queue.specs.Queue.{empty_queue}
 use Rattle.terminal.specs.State.{card, core_at_setup}
 use Rattle.actions.specs.Actions.{After}
-use Rattle.recording.specs.declared.reading.Reading.{Reading}
-use Rattle.recording.specs.declared.reading.Reading.TheVariants.{Taken, End, Refused}
 use Rattle.recording.specs.Tag.{tag_of, length_fits}
 use Rattle.recording.specs.Field.{field_at}
 use Rattle.recording.specs.Seen.{setup_seen}
-use Rattle.recording.specs.Reading.{read_at}
+use Rattle.recording.specs.Reading.{Reading, Taken, End, Refused, read_at}
 use Rattle.tray.specs.Run.{Tray, tray_over, tray_at_start, Whole, whole_from}
 use Rattle.tray_laws.specs.ByActions.{
   action_of,

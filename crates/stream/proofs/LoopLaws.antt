@@ -1,125 +1,93 @@
--- The loop of a program: how far it has come, a turn at a time. A program's own loop keeps
--- `Pumping` of its run, beside what it says of the memory that it is lent. Assumes nothing.
-use mathlib.Core.Path.{◌≡◌, refl, ◌∙◌}
+-- The loop of a program: turn after turn, over whatever steady course. Assumes nothing.
+use mathlib.Core.Path.{◌≡◌, refl, subst, ◌∙◌}
 use mathlib.Core.Bool.{Bool, true, false}
 use mathlib.Core.List.{List, []}
-use Prim.Native.Nat.{ℕ, suc, ◌+◌, ◌-◌, ◌≤◌, ◌<◌}
-use native.Mathlib.Omega.{arith}
-use lib.ListN.{length, take, drop}
+use Prim.Native.Nat.{ℕ, suc, ◌+◌, ◌≤◌}
+use lib.ListN.{length}
+use Rattle.std.specs.Prelude.{Option, Result, Ok, Err}
+use Rattle.std.proofs.Math.Numerals.{add-one}
 use Rattle.rules.proofs.Clash.{clash}
 use Rattle.pieces.specs.Course.{Course}
 use Rattle.pieces.specs.Steady.{Steady}
-use Rattle.pieces.specs.AsCoded.Window.{Passed, window_run}
-use Rattle.stream.specs.declared.Pump.{Pump}
 use Rattle.stream.specs.Progress.{buffer_bytes, starts}
 use Rattle.stream.specs.Came.{all_turns, Came, spent}
-use Rattle.stream.specs.AsCoded.Turns.{Buffers, Settled}
+use Rattle.stream.specs.Known.{PrintsKnown}
+use Rattle.stream.specs.AsCoded.Turns.{Left, nothing_left, Turned}
+use Rattle.stream.proofs.KnownLaws.{consumes_nothing, appends_nothing}
 use Rattle.stream.proofs.ProgressLaws.{few_turns}
-use Rattle.stream.proofs.StepLaws.{Stepped, call_steps}
-use Rattle.stream.proofs.TurnLaws.{
-  Reached,
-  Pumped,
-  going,
-  over,
-  after_call_so,
-  after_call_inside,
-}
+use Rattle.stream.proofs.TurnLaws.{Known, Reached, Ended, After, after_turn}
 
--- what the loop keeps, from `start` on and with so many turns left
-pub record Pumping {Run : Type 0} (course : Course Run) (start run : Run) (pump : Pump)
-    (window out : List ℕ) (left : ℕ) : Type 0 where
-  pub turns : ℕ
-  pub so_far : Pumped course start turns run (take pump.have window)
-      pump.ended pump.over pump.whole
-  pub all_turns_lem : turns + left ≡ all_turns
-  pub buffers : Buffers pump.have window out
+-- so far a steady course has come, whose fields are no longer than the window
+pub record Runs {Run : Type 0} (course : Course Run) (start : Run) (before : Known) (turns : ℕ)
+    (new : Run) (left : Left) (known : Known) (out : List ℕ) : Type 0 where
+  pub out_size : length out ≡ buffer_bytes
+  pub reached_lem : (longest : ℕ) → Steady course longest → longest ≤ buffer_bytes
+      → Reached course start before turns new left known
 
--- a program that is not over
-not_over : {Run : Type 0} {course : Course Run} {start new : Run} {turns : ℕ} {window : List ℕ}
-    {ended stopped whole : Bool} → Pumped course start turns new window ended stopped whole
-    → stopped ≡ false → Reached course start turns ended new window
-not_over (going so_far) is = so_far
-not_over (over came) is = absurd (clash (cc))
-
-module _ {Run : Type 0} (course : Course Run) where
-  -- ---- the first turn
-
-  pub pumping_start : (start : Run) (window out : List ℕ) → Buffers 0 window out
-      → Pumping course start start
-      (record { have = 0; ended = false; over = false; whole = false }) window out all_turns
-  pumping_start start window out buffers =
+module _ {Run : Type 0} (course : Course Run) (start : Run) (before : Known) where
+  pub runs_at_start : (out : List ℕ) → length out ≡ buffer_bytes
+      → Runs course start before 0 start nothing_left before out
+  runs_at_start out size =
       record {
-        turns = 0;
-        so_far = going (record { input = []; text = []; progressed = starts });
-        all_turns_lem = refl;
-        buffers = buffers;
+        out_size = size;
+        reached_lem =
+            λ longest steady short. record {
+              input = [];
+              text = [];
+              progressed = starts;
+              read = consumes_nothing before.given;
+              at_end = λ ended. absurd (clash (cc));
+              wrote = appends_nothing before.held;
+            };
       }
 
-  module _ {longest : ℕ} (steady : Steady course longest) {start : Run} where
-    -- ---- a turn more
+  module _ {Error : Type 0} {turns : ℕ} {old new : Run} {left left' : Left} {known : Known}
+      {out : List ℕ} (so_far : Runs course start before turns old left known out) (known' : Known)
+      (told : Result Bool Error)
+      (turned_lem : Turned course old left out new left' known.given known'.given known.held
+      known'.held told) where
+    -- what a turn leads to
+    runs_to : {told' : Result Bool Error} → told ≡ told' → (longest : ℕ) → Steady course longest
+        → longest ≤ buffer_bytes → After course start before (suc turns) new left' known' told'
+    runs_to is_told longest steady short =
+        subst (After course start before (suc turns) new left' known') is_told
+        (after_turn course steady short out so_far.out_size
+        (so_far.reached_lem longest steady short) turned_lem)
 
-    -- a call, and what it leaves to do is done; no field is longer than the window
-    pub pumping_on : longest ≤ buffer_bytes → (old : Run) (pump : Pump) (window out : List ℕ)
-        (left : ℕ) (made : Passed Run)
-        → Pumping course start old pump window out left
-        → made
-        ≡ window_run course old (take (pump.have - 0) (drop 0 window)) pump.ended out
-        → (next : Pump) (window' : List ℕ) → 0 < left → pump.over ≡ false
-        → Settled pump window made.at made.put made.stop next window'
-        → length window' ≡ length window → length made.out ≡ length out
-        → Pumping course start made.run next window' made.out (left - 1)
-    pumping_on short old pump window out left made so_far is_made next window' some taken settled
-        same_window same_out =
-        let called = settled.called in
-        let step : Stepped course old window pump.have pump.ended made.run
-        settled.kept called made.stop =
-        call_steps course steady short old window pump.have pump.ended out made
-        so_far.buffers is_made settled.kept called settled.is_kept settled.breaks
-        settled.same_end settled.not_whole in
-        record {
-          turns = suc so_far.turns;
-          so_far =
-              after_call_so course settled.kept called next made.stop window' step
-              settled.behind (not_over so_far.so_far taken);
-          all_turns_lem = omega (arith, so_far.all_turns_lem);
-          buffers =
-              record {
-                inside =
-                    after_call_inside called next settled.kept made.stop window'
-                    step.inside settled.behind;
-                window_size = same_window ∙ so_far.buffers.window_size;
-                out_size = same_out ∙ so_far.buffers.out_size;
-              };
+    pub runs_on : (out' : List ℕ) → length out' ≡ length out → told ≡ Ok false
+        → Runs course start before (turns + 1) new left' known' out'
+    runs_on out' same is_told =
+        rw add-one record {
+          out_size = same ∙ so_far.out_size;
+          reached_lem = runs_to is_told;
         }
 
-    -- ---- the last
+    pub runs_whole : told ≡ Ok true → (longest : ℕ) → Steady course longest
+        → longest ≤ buffer_bytes → Ended course start before new known'
+    runs_whole is_told = runs_to is_told
 
-    module _ {run : Run} {pump : Pump} {window out : List ℕ} {left : ℕ}
-        (so_far : Pumping course start run pump window out left) where
-      -- the program is over
-      pub pumping_over : pump.over ≡ true → Came course start run pump.whole
-      pumping_over is = came so_far.so_far is where
-        came : {new : Run} {turns : ℕ} {rest : List ℕ} {ended stopped whole : Bool}
-            → Pumped course start turns new rest ended stopped whole → stopped ≡ true
-            → Came course start new whole
-        came (going reached) same = absurd (clash (cc))
-        came (over ended) same = ended
+    pub runs_off : (error : Error) → told ≡ Err error → (longest : ℕ) → Steady course longest
+        → longest ≤ buffer_bytes → Came course start new false
+    runs_off error is_told = runs_to is_told
 
-      -- no turn is left
-      pub pumping_spent : left ≤ 0 → Came course start run pump.whole
-      pumping_spent none = came (omega (arith, so_far.all_turns_lem, none)) so_far.so_far where
-        came : {new : Run} {turns : ℕ} {rest : List ℕ} {ended stopped whole : Bool}
-            → turns ≡ all_turns → Pumped course start turns new rest ended stopped whole
-            → Came course start new whole
-        came all (going {ended = ended} {new = new} {window = rest} reached) =
-            let progressed = rw all at reached.progressed in
-            spent
-            (record {
-              ended = ended;
-              input = reached.input;
-              text = reached.text;
-              run = new;
-              window = rest;
-            })
-            progressed (few_turns course steady progressed) refl
-        came all (over ended) = ended
+  -- no turn is left
+  pub runs_out : {turns : ℕ} {new : Run} {left : Left} {known : Known} {out : List ℕ}
+      → Runs course start before turns new left known out → turns ≡ all_turns
+      → (longest : ℕ) → Steady course longest → longest ≤ buffer_bytes → Came course start new false
+  runs_out so_far all longest steady short =
+      let reached = so_far.reached_lem longest steady short in
+      let progressed = rw all at reached.progressed in
+      spent _ progressed (few_turns course steady progressed) refl
+
+-- ---- where it began
+
+module _ {Run : Type 0} {course : Course Run} {start start' new : Run} {whole : Bool}
+    (same : start ≡ start') where
+  pub came_from : Came course start new whole → Came course start' new whole
+  came_from = subst (λ (any : Run). Came course any new whole) same
+
+  pub known_from : {given held held' : Option (List ℕ)}
+      → PrintsKnown course start new whole given held held'
+      → PrintsKnown course start' new whole given held held'
+  known_from {given} {held} {held'} =
+      subst (λ (any : Run). PrintsKnown course any new whole given held held') same

@@ -1,84 +1,154 @@
--- A call, and what it leaves to do, is a turn: it takes a field, reads a piece or finds the end of
--- the input, or it is the last. Assumes nothing.
-use mathlib.Core.Path.{◌≡◌, refl, sym, ap, ◌∙◌}
+-- A turn of a program: a call, and what it leaves to do. So far has the program come then, or it is
+-- over (`after_turn`). Assumes nothing.
+use mathlib.Core.Path.{◌≡◌, refl, sym, ap, subst, ◌∙◌}
 use mathlib.Core.Logic.{◌≢◌}
-use mathlib.Core.Bool.{Bool, true, false}
-use mathlib.Core.List.{List, [], ◌++◌, append-nil}
-use Prim.Native.Nat.{ℕ, suc, ◌≤◌}
+use mathlib.Core.Bool.{Bool, true, false, true≢false}
+use mathlib.Core.List.{List, [], ◌∷◌, ◌++◌, append-nil}
+use Prim.Native.Nat.{ℕ, suc, ◌≤◌, ◌<◌, min}
 use native.Mathlib.Omega.{arith}
-use lib.Dec.{eqb}
-use lib.ListN.{length, take}
-use lib.Seq.{length-take-le}
-use borrow.Author.Tests.{eqb-true, eqb-false}
-use Rattle.rules.proofs.Empty.{no_entries}
+use lib.ListN.{length, take, length-drop}
+use Rattle.std.specs.Prelude.{Option, Some, None, IfSome, Result, Ok, Err, IsErr, OnOk}
+use Rattle.std.specs.Io.KnownBytes.{Appends, Consumes, IsAtEnd}
+use Rattle.std.proofs.lemmas.List.{take_min}
+use Rattle.pieces.specs.declared.window.Passed.{Passed as HeldPassed}
 use Rattle.pieces.specs.declared.stop.Stop.{Stop}
 use Rattle.pieces.specs.declared.stop.Stop.TheVariants.{Going, Hungry, Full, Over}
 use Rattle.pieces.specs.Course.{Course}
-use Rattle.stream.specs.declared.Heard.{Heard}
-use Rattle.stream.specs.declared.Pump.{Pump}
-use Rattle.stream.specs.Progress.{
-  Far,
-  after_call,
-  with_piece,
-  at_end,
-  Progressed,
-  takes,
-  feeds,
-  finds_end,
-}
+use Rattle.pieces.specs.Whole.{Whole, whole, with_line, whole_from}
+use Rattle.pieces.specs.Steady.{Steady}
+use Rattle.pieces.specs.AsCoded.Window.{Passed, is_going, window_run}
+use Rattle.pieces.specs.AsCoded.Pieces.{lines_put}
+use Rattle.pieces.specs.AsCoded.Runner.{passed_of}
+use Rattle.pieces.proofs.EndLaws.{call_stops, full_after_a_field}
+use Rattle.pieces.proofs.HungryLaws.{hungry_few}
+use Rattle.pieces.proofs.WindowLaws.{call_is_over}
+use Rattle.pieces.proofs.PieceLaws.{streamed_prints}
+use Rattle.stream.specs.Progress.{buffer_bytes, Far, after_call, with_piece, at_end, Progressed, takes, feeds, finds_end}
 use Rattle.stream.specs.Came.{LastCall, Came, finished, broken_off, unread}
-use Rattle.stream.specs.AsCoded.Turns.{
-  is_failure,
-  ReadOn,
-  AfterCall,
-  breaks_off,
-  stays,
-  ends_run,
-  reads_on,
-  no_room,
-}
-use Rattle.stream.proofs.StepLaws.{Stepped}
+use Rattle.stream.specs.Known.{PrintedAll}
+use Rattle.stream.specs.AsCoded.Turns.{Left, behind, Settled, Turned}
+use Rattle.stream.specs.AsCoded.Turns as turn
+use Rattle.stream.proofs.KnownLaws.{consumes_more, appends_more}
+use Rattle.stream.proofs.ProgressLaws.{progressed_streamed}
 
--- in so many turns some input was read and some text printed; these bytes are left in the window
-pub record Reached {Run : Type 0} (course : Course Run) (start : Run) (turns : ℕ) (ended : Bool)
-    (new : Run) (window : List ℕ) : Type 0 where
+-- ---- how the code comes to it
+
+module _ {Run Error : Type 0} (course : Course Run) (old : Run) (left : Left) (out : List ℕ)
+    (new : Run) (passed : HeldPassed) (out' bytes : List ℕ) (ended : Bool)
+    (few : length left.bytes ≤ buffer_bytes) (is_bytes : bytes ≡ left.bytes)
+    (is_ended : ended ≡ left.ended)
+    (is : passed_of new passed out' ≡ window_run course old bytes ended out) where
+  pub turned : (left' : Left) (given given' held held' : Option (List ℕ)) (told : Result Bool Error)
+      → OnOk told (Appends held held' (lines_put (passed_of new passed out')))
+      → Settled (passed_of new passed out') left left' given given' told
+      → Turned course old left out new left' given given' held held' told
+  turned left' given given' held held' told written settled =
+      let is_call : passed_of new passed out' ≡ window_run course old left.bytes left.ended out =
+      is ∙ rw (is_bytes, is_ended) refl in
+      record {
+        few = few;
+        is_new = ap (λ (call : Passed Run). call.run) is_call;
+        written =
+            subst (λ (call : Passed Run). OnOk told (Appends held held' (lines_put call))) is_call
+            written;
+        settled =
+            subst (λ (call : Passed Run). Settled call left left' given given' told) is_call
+            settled;
+      }
+
+-- of a turn that fails no line has to be written
+pub none_written : {Error : Type 0} (Wrote : Type 0) (told : Result Bool Error) → IsErr told
+    → OnOk told Wrote
+none_written Wrote (Ok over) failed = absurd (true≢false (sym failed))
+none_written Wrote (Err error) failed = tt
+
+-- nothing is put where no line is
+pub some_put : (out : List ℕ) (into size : ℕ) → size ≡ min into (length out)
+    → take size out ≢ [] → into ≢ 0
+some_put out into size is_size some nothing =
+    let none : size ≡ 0 = omega (arith, is_size, nothing) in
+    some (rw none refl)
+
+-- a part that is as long as the buffer at the most is what was put
+pub lines_written : (held held' : Option (List ℕ)) (out : List ℕ) (into size : ℕ)
+    → size ≡ min into (length out) → Appends held held' (take size out)
+    → Appends held held' (take into out)
+lines_written held held' out into size is_size =
+    subst (Appends held held')
+    (ap (λ (any : ℕ). take any out) is_size ∙ take_min into out)
+
+-- ---- how far it has come
+
+-- what is known of the bytes that the input has yet to give, and of those that the output holds
+pub record Known : Type 0 where
+  pub given : Option (List ℕ)
+  pub held : Option (List ℕ)
+
+-- in so many turns some input was read and some text printed, and so much is left
+pub record Reached {Run : Type 0} (course : Course Run) (start : Run) (before : Known)
+    (turns : ℕ) (new : Run) (left : Left) (known : Known) : Type 0 where
   pub input : List ℕ
   pub text : List ℕ
   pub progressed : Progressed course start turns
-      (record { ended = ended; input = input; text = text; run = new; window = window })
+      (record {
+        ended = left.ended;
+        input = input;
+        text = text;
+        run = new;
+        window = left.bytes;
+      })
+  pub read : Consumes before.given known.given input
+  pub at_end : left.ended ≡ true → IsAtEnd known.given
+  pub wrote : Appends before.held known.held text
 
--- `Pumped course start turns new window ended over whole`: the program goes on after so many turns,
--- with these bytes in its window, or it is over, and its run whole or not
-pub data Pumped {Run : Type 0} (course : Course Run) (start : Run) (turns : ℕ)
-    : Run → List ℕ → Bool → Bool → Bool → Type 0 where
-  going : {ended : Bool} {new : Run} {window : List ℕ}
-      → Reached course start turns ended new window
-      → Pumped course start turns new window ended false false
-  over : {ended whole : Bool} {new : Run} {window : List ℕ} → Came course start new whole
-      → Pumped course start turns new window ended true whole
+-- a run that is over, and whole
+pub record Ended {Run : Type 0} (course : Course Run) (start : Run) (before : Known) (new : Run)
+    (known : Known) : Type 0 where
+  pub came : Came course start new true
+  pub printed : IfSome before.given (PrintedAll course start new before.held known.held)
+
+-- the program goes on, or it is over, and its run whole or not
+abbrev pub After : {Run Error : Type 0} → Course Run → Run → Known → ℕ → Run → Left → Known
+    → Result Bool Error → Type 0
+After course start before turns new left known (Ok false) =
+    Reached course start before turns new left known
+After course start before turns new left known (Ok true) = Ended course start before new known
+After course start before turns new left known (Err error) = Came course start new false
+
+by_failure : {Run Error : Type 0} (course : Course Run) (start : Run) (before : Known) (turns : ℕ)
+    (new : Run) (left : Left) (known : Known) (told : Result Bool Error) → IsErr told
+    → Came course start new false → After course start before turns new left known told
+by_failure course start before turns new left known (Ok over) failed came =
+    absurd (true≢false (sym failed))
+by_failure course start before turns new left known (Err error) failed came = came
 
 -- a call that neither goes on nor is over nor needs bytes had no room for another line
-is_full : (stop : Stop) → stop ≢ Going → stop ≢ Over → stop ≢ Hungry → stop ≡ Full
-is_full Going goes ends waits = absurd (goes refl)
+is_full : (stop : Stop) → is_going stop ≡ false → stop ≢ Over → stop ≢ Hungry → stop ≡ Full
+is_full Going goes ends waits = absurd (true≢false goes)
 is_full Hungry goes ends waits = absurd (waits refl)
 is_full Full goes ends waits = refl
 is_full Over goes ends waits = absurd (ends refl)
 
--- what a call leaves to do is done
-module _ {Run : Type 0} (course : Course Run) {start old new : Run} {turns : ℕ} {window : List ℕ}
-    {have : ℕ} {ended : Bool} (window' : List ℕ) (pump : Pump) (stop : Stop)
-    (step : Stepped course old window have ended new window' pump stop)
-    (so_far : Reached course start turns ended old (take have window)) where
+module _ {Run Error : Type 0} (course : Course Run) {longest : ℕ} (steady : Steady course longest)
+    (short : longest ≤ buffer_bytes) {start old : Run} {before known known' : Known} {turns : ℕ}
+    {left : Left} (out : List ℕ) (long : length out ≡ buffer_bytes)
+    (so_far : Reached course start before turns old left known) {new : Run}
+    {left' : Left} {told : Result Bool Error}
+    (turned_lem : Turned course old left out new left' known.given known'.given known.held
+    known'.held told) where
   -- before the call
   far : Far Run
   far =
       record {
-        ended = ended;
+        ended = left.ended;
         input = so_far.input;
         text = so_far.text;
         run = old;
-        window = take have window;
+        window = left.bytes;
       }
+
+  call : Passed Run
+  call = window_run course old left.bytes left.ended out
 
   -- the call, where it is the last
   last : LastCall course start new
@@ -88,100 +158,115 @@ module _ {Run : Type 0} (course : Course Run) {start old new : Run} {turns : ℕ
         turns = turns;
         before = far;
         progressed = so_far.progressed;
-        out = step.out;
-        is_new = step.is_new;
+        out = out;
+        is_new = turned_lem.is_new;
       }
 
-  -- as far as a turn has come
-  reached : (next : Far Run) {left : List ℕ} → Progressed course start (suc turns) next
-      → next.run ≡ (after_call course far step.out).run → next.window ≡ left
-      → Reached course start (suc turns) next.ended new left
+  reached : (next : Far Run) → Progressed course start (suc turns) next
+      → next.run ≡ (after_call course far out).run → next.window ≡ left'.bytes
+      → next.ended ≡ left'.ended → Consumes before.given known'.given next.input
+      → (left'.ended ≡ true → IsAtEnd known'.given)
+      → Appends before.held known'.held next.text
+      → Reached course start before (suc turns) new left' known'
   unfolding far
-  reached next progressed is_run is_left =
-      rw (step.is_new ∙ sym is_run, ← is_left)
-      (record { input = next.input; text = next.text; progressed = progressed })
+  reached next progressed is_run is_left is_ended read at_end wrote =
+      rw (turned_lem.is_new ∙ sym is_run)
+      (record {
+        input = next.input;
+        text = next.text;
+        progressed = rw (← is_left, ← is_ended) progressed;
+        read = read;
+        at_end = at_end;
+        wrote = wrote;
+      })
 
-  -- it took a field, and leaves nothing to do
-  stayed : stop ≢ Over → stop ≢ Hungry
-      → Reached course start (suc turns) ended new (take pump.have window')
-  unfolding far
-  stayed other nor =
-      let full : stop ≡ Full = is_full stop step.stops other nor in
-      reached (after_call course far step.out)
-      (takes step.out so_far.progressed (step.is_stop ∙ full) (step.took full)) refl
-      (sym step.is_left)
+  -- all that the input had to give is printed
+  is_printed : (call).stop ≡ Over → Appends before.held known'.held (so_far.text ++ lines_put (call))
+      → IfSome before.given (PrintedAll course start new before.held known'.held)
+  unfolding call
+  is_printed is wrote = go before.given known.given so_far.read so_far.at_end where
+    go : (given given' : Option (List ℕ)) → Consumes given given' so_far.input
+        → (left.ended ≡ true → IsAtEnd given')
+        → IfSome given (PrintedAll course start new before.held known'.held)
+    go None given' read none = tt
+    go (Some bytes) None read none = absurd read
+    go (Some bytes) (Some rest) read none =
+        let as_whole : whole_from course start bytes
+        ≡ whole (so_far.text ++ lines_put (call)) (call).run =
+        ap (whole_from course start) read
+        ∙ streamed_prints course steady start left.ended so_far.input so_far.text old left.bytes
+        (progressed_streamed course steady so_far.progressed) rest none
+        ∙ ap (with_line so_far.text)
+        (call_is_over course steady left.bytes rest left.ended none old out is) in
+        record {
+          is_text = rw as_whole wrote;
+          is_new = turned_lem.is_new ∙ sym (ap (λ (any : Whole Run). any.run) as_whole);
+        }
 
-  -- a read behind what the call left: it failed, brought nothing, or brought a piece
-  by_read : (next : Pump) (window'' : List ℕ) → stop ≡ Hungry → ReadOn pump window' next window''
-      → Pumped course start (suc turns) new (take next.have window'')
-      next.ended next.over next.whole
-  unfolding far last
-  by_read next window'' hungry read =
-      rw read.is_new (go (is_failure heard.answer) (eqb heard.have pump.have) refl) where
-        heard : Heard
-        heard = read.heard
+  pub after_turn : After course start before (suc turns) new left' known' told
+  unfolding far call last
+  after_turn = go turned_lem.settled where
+    wrote : {over : Bool} → told ≡ Ok over
+        → Appends before.held known'.held (so_far.text ++ lines_put (call))
+    wrote is_told =
+        appends_more before.held known.held known'.held so_far.text (lines_put (call)) so_far.wrote
+        (rw is_told at turned_lem.written)
 
-        piece : List ℕ
-        piece = read.grown.piece
+    go : Settled (call) left left' known.given known'.given told
+        → After course start before (suc turns) new left' known' told
+    go (turn.breaks_off some failed) =
+        by_failure course start before (suc turns) new left' known' told failed
+        (broken_off last some)
+    go (turn.unread is failed) =
+        by_failure course start before (suc turns) new left' known' told failed (unread last is)
+    go (turn.ends is is_told) =
+        let printed = is_printed is (wrote is_told) in
+        rw is_told (record { came = finished last is; printed = printed })
+    go (turn.stays over hungry is_left same is_told) =
+        let all = wrote is_told in
+        let full : (call).stop ≡ Full =
+        is_full (call).stop
+        (call_stops course steady left.bytes left.ended old out
+        (omega (arith, turned_lem.few))) over hungry in
+        rw is_told
+        (reached (after_call course far out)
+        (takes out so_far.progressed full
+        (full_after_a_field course steady left.bytes left.ended old out (omega (arith, long))
+        full))
+        refl (ap (λ (any : Left). any.bytes) (sym is_left))
+        (ap (λ (any : Left). any.ended) (sym is_left))
+        (rw same so_far.read) (rw (same, is_left) so_far.at_end) all)
+    go (turn.reads {after = after} is is_after read is_told) =
+        rw is_told (by_piece (wrote is_told) read.piece (rw is_after at read.is_new) read.given_lem
+        (rw is_after at read.at_end)) where
+          more : (piece : List ℕ) → Consumes known.given known'.given piece
+              → Consumes before.given known'.given (so_far.input ++ piece)
+          more piece consumed =
+              consumes_more before.given known.given known'.given so_far.input piece so_far.read consumed
 
-        here : Far Run
-        here = after_call course far step.out
-
-        all : here.window ++ piece ≡ take heard.have window''
-        all =
-            ap (λ (left : List ℕ). left ++ piece) (sym step.is_left) ∙ sym read.grown.behind
-
-        go : (failed nothing : Bool) → eqb heard.have pump.have ≡ nothing
-            → Pumped course start (suc turns) new
-            (take heard.have window'') nothing failed false
-        go true nothing is = over (unread last (step.is_stop ∙ hungry))
-        go false true is =
-            let same : heard.have ≡ pump.have = eqb-true heard.have pump.have is in
-            let none : piece ≡ [] = no_entries piece (omega (arith, read.grown.is_more)) in
-            let long = length-take-le pump.have window' step.inside in
-            going (reached (at_end here)
-            (finds_end step.out so_far.progressed (step.is_stop ∙ hungry)
-            (omega (arith, step.room hungry, long, ap length step.is_left)))
-            refl
-            (sym (append-nil here.window)
-            ∙ ap (λ (some : List ℕ). here.window ++ some) (sym none) ∙ all))
-        go false false is =
-            let other = eqb-false heard.have pump.have is in
-            going (reached (with_piece here piece)
-            (feeds step.out piece so_far.progressed (step.is_stop ∙ hungry)
-            (omega (arith, read.grown.is_more, other))) refl all)
-
--- so far has the program come when that is done
-pub after_call_so : {Run : Type 0} (course : Course Run) {start old new : Run} {turns : ℕ}
-    {window : List ℕ} {have : ℕ} {ended : Bool} (window' : List ℕ) (pump next : Pump) (stop : Stop)
-    (window'' : List ℕ)
-    → Stepped course old window have ended new window' pump stop
-    → AfterCall pump window' stop next window''
-    → Reached course start turns ended old (take have window)
-    → Pumped course start (suc turns) new (take next.have window'')
-    next.ended next.over next.whole
-unfolding last far
-after_call_so course window' pump next stop window'' step (breaks_off broken) so_far =
-    rw (broken, step.not_whole)
-    (over (broken_off (last course window' pump stop step so_far) (step.breaks broken)))
-after_call_so course window' pump next stop window'' step (stays taken other nor) so_far =
-    rw (step.same_end, taken, step.not_whole)
-    (going (stayed course window' pump stop step so_far other nor))
-after_call_so course window' pump next stop window'' step (ends_run taken is_next) so_far =
-    rw is_next
-    (over (finished (last course window' pump stop step so_far) step.is_stop))
-after_call_so course window' pump next stop window'' step (reads_on taken read) so_far =
-    by_read course window' pump stop step so_far next window'' refl read
-after_call_so course window' pump next stop window'' step (no_room taken full is_next) so_far =
-    absurd (omega (arith, full, step.room refl, step.window_size))
-
--- and its bytes are inside the window
-pub after_call_inside : (pump next : Pump) (window : List ℕ) (stop : Stop) (window' : List ℕ)
-    → pump.have ≤ length window → AfterCall pump window stop next window'
-    → next.have ≤ length window'
-after_call_inside pump next window stop window' inside (breaks_off _) = inside
-after_call_inside pump next window stop window' inside (stays _ _ _) = inside
-after_call_inside pump next window stop window' inside (ends_run _ is_next) = rw is_next inside
-after_call_inside pump next window stop window' inside (reads_on _ read) =
-    rw read.is_new read.grown.inside
-after_call_inside pump next window stop window' inside (no_room _ _ is_next) = rw is_next inside
+          by_piece : Appends before.held known'.held (so_far.text ++ lines_put (call))
+              → (piece : List ℕ) → left' ≡ turn.with_piece piece (behind (call).at left)
+              → Consumes known.given known'.given piece
+              → (piece ≡ [] → length (behind (call).at left).bytes < buffer_bytes
+              → IsAtEnd known'.given)
+              → Reached course start before (suc turns) new left' known'
+          by_piece all [] is_left consumed at_end_lem =
+              let room : length (behind (call).at left).bytes < buffer_bytes =
+              omega (
+                arith,
+                short,
+                hungry_few course steady left.bytes left.ended old out is,
+                length-drop (call).at left.bytes,
+              ) in
+              reached (at_end (after_call course far out))
+              (finds_end out so_far.progressed is room)
+              refl (sym (append-nil _) ∙ ap (λ (any : Left). any.bytes) (sym is_left))
+              (ap (λ (any : Left). any.ended) (sym is_left))
+              (rw append-nil at (more [] consumed)) (λ ended. at_end_lem refl room) all
+          by_piece all (byte ∷ rest) is_left consumed at_end_lem =
+              reached (with_piece (after_call course far out) (byte ∷ rest))
+              (feeds out (byte ∷ rest) so_far.progressed is (omega arith))
+              refl (ap (λ (any : Left). any.bytes) (sym is_left))
+              (ap (λ (any : Left). any.ended) (sym is_left))
+              (more (byte ∷ rest) consumed)
+              (λ ended. absurd (true≢false (sym ended ∙ ap (λ (any : Left). any.ended) is_left))) all

@@ -1,7 +1,8 @@
 -- Each public contract of the crate allows one outcome alone: one core, one answer, and one content
--- of every cell and every queue place that was lent. Assumes nothing.
+-- of the queue and every cell that was lent. Assumes nothing.
 use Rattle.rules.proofs.Determined.{Determined, DeterminedAs, same}
-use Rattle.terminal.specs.State.{Card, card_of}
+use Rattle.terminal.specs.declared.state.Core.{Core}
+use Rattle.terminal.specs.State.{Card, card}
 use Rattle.terminal.specs.Event.{replied, Shown, shown}
 use Rattle.terminal.proofs.state.Core.at_setup.Kinds as core_setup_kinds
 use Rattle.terminal.proofs.state.Core.at_setup.Reads as core_setup_reads
@@ -27,39 +28,45 @@ use Rattle.terminal.proofs.state.Core.silence.Reads as core_silence_reads
 pub core_setup : Determined 0 core_setup_kinds.ps core_setup_kinds.r core_setup_reads.Post
 core_setup κs arguments result result' exit exit' = same
 
-pub core_table : Determined 0 core_table_kinds.ps core_table_kinds.r core_table_reads.Post
+pub core_table :
+    DeterminedAs 1 core_table_kinds.ps core_table_kinds.r core_table_reads.Post Core
+    (λ κs result exit. exit.0.now)
 core_table κs arguments result result' exit exit' = same
 
-pub core_flags : Determined 0 core_flags_kinds.ps core_flags_kinds.r core_flags_reads.Post
+pub core_flags :
+    DeterminedAs 1 core_flags_kinds.ps core_flags_kinds.r core_flags_reads.Post Core
+    (λ κs result exit. exit.0.now)
 core_flags κs arguments result result' exit exit' = same
 
-pub core_open : Determined 1 core_open_kinds.ps core_open_kinds.r core_open_reads.Post
+pub core_open :
+    DeterminedAs 2 core_open_kinds.ps core_open_kinds.r core_open_reads.Post Core
+    (λ κs result exit. exit.0.now)
 core_open κs arguments result result' exit exit' = same
 
-pub core_reply : Determined 0 core_reply_kinds.ps core_reply_kinds.r core_reply_reads.Post
+pub core_reply : Determined 1 core_reply_kinds.ps core_reply_kinds.r core_reply_reads.Post
 core_reply κs arguments result result' exit exit' = same
 
 pub close_by_fault :
-    DeterminedAs 2 close_by_fault_kinds.ps close_by_fault_kinds.r close_by_fault_reads.Post Card
-    (λ κs result exit. card_of result exit.1.1.1.0.now exit.1.1.1.1.0.now)
+    DeterminedAs 3 close_by_fault_kinds.ps close_by_fault_kinds.r close_by_fault_reads.Post Card
+    (λ κs result exit. card exit.0.now exit.1.1.0.now exit.1.1.1.0.now)
 close_by_fault κs arguments result result' exit exit' = same
 
 pub close_at_end :
-    DeterminedAs 2 close_at_end_kinds.ps close_at_end_kinds.r close_at_end_reads.Post Card
-    (λ κs result exit. card_of result exit.1.1.0.now exit.1.1.1.0.now)
+    DeterminedAs 3 close_at_end_kinds.ps close_at_end_kinds.r close_at_end_reads.Post Card
+    (λ κs result exit. card exit.0.now exit.1.0.now exit.1.1.0.now)
 close_at_end κs arguments result result' exit exit' = same
 
-pub after_row : Determined 0 after_row_kinds.ps after_row_kinds.r after_row_reads.Post
+pub after_row :
+    DeterminedAs 1 after_row_kinds.ps after_row_kinds.r after_row_reads.Post Core
+    (λ κs result exit. exit.0.now)
 after_row κs arguments result result' exit exit' = same
 
 pub core_word :
-    DeterminedAs 2 core_word_kinds.ps core_word_kinds.r core_word_reads.Post Card
-    (λ κs result exit. card_of result exit.1.1.0.now exit.1.1.1.0.now)
+    DeterminedAs 3 core_word_kinds.ps core_word_kinds.r core_word_reads.Post Card
+    (λ κs result exit. card exit.0.now exit.1.0.now exit.1.1.0.now)
 core_word κs arguments result result' exit exit' = same
 
 pub core_silence :
-    DeterminedAs 2 core_silence_kinds.ps core_silence_kinds.r core_silence_reads.Post Shown
-    (λ κs result exit. shown
-    (card_of result.held exit.1.1.0.now exit.1.1.1.0.now)
-    (replied result.reply))
+    DeterminedAs 3 core_silence_kinds.ps core_silence_kinds.r core_silence_reads.Post Shown
+    (λ κs result exit. shown (card exit.0.now exit.1.0.now exit.1.1.0.now) (replied result))
 core_silence κs arguments result result' exit exit' = same

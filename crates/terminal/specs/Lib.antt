@@ -1,5 +1,5 @@
 -- The terminal of document 01, in its order; its open message is in the crate `message`. Lay it
--- beside the paper, file by file; of `AsCoded` nothing has to be read.
+-- beside the paper, file by file.
 --     State          what is held, a setter for each field, setup
 --     Opening        what an opening does
 --     Closing        closing, faults, and the sound end
@@ -10,7 +10,6 @@
 --     SilenceStep    what silence decides is done
 --     Machine        one step for each event, and a run
 --     Fitness        refusal 4: which states are fit
---     AsCoded        how the code is cut
 pub mod State
 pub mod Opening
 pub mod Closing
@@ -21,4 +20,3 @@ pub mod WordStep
 pub mod SilenceStep
 pub mod Machine
 pub mod Fitness
-pub mod AsCoded

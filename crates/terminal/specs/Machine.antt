@@ -2,7 +2,7 @@
 use Rattle.std.specs.Prelude.{List, [], ◌∷◌, ℕ}
 use Rattle.std.proofs.lemmas.List.Edits.{sets}
 use Rattle.card.specs.declared.place.Block.{Block}
-use Rattle.queue.specs.Queue.{oldest_word, without_oldest, queue}
+use Rattle.queue.specs.Queue.{oldest_word, without_oldest_block}
 use Rattle.message.specs.Message.{moved_message}
 use Rattle.terminal.specs.State.{
   Card,
@@ -33,8 +33,7 @@ use Rattle.terminal.specs.SilenceStep.{silence_step}
 unfoldable pub read_queue_step : Card → Outcome
 read_queue_step old =
     record {
-      card =
-          with_queue (queue old.queue.places (without_oldest old.queue.ring)) old;
+      card = with_queue (without_oldest_block old.queue) old;
       answer = queue_word (oldest_word old.queue);
       opened = none;
     }

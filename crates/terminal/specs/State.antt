@@ -2,11 +2,8 @@
 use Rattle.std.specs.Prelude.{Bool, false, List, ℕ, ◌*◌, ◌%◌, None, Option}
 use Rattle.card.specs.declared.place.Block.{Block}
 use Rattle.queue.specs.declared.Queue.{Queue}
-use Rattle.queue.specs.declared.Ring.{Ring}
-use Rattle.queue.specs.Queue.{queue}
 use Rattle.terminal.specs.declared.state.Shut.{Shut}
 use Rattle.terminal.specs.declared.state.Core.{Core}
-use Rattle.terminal.specs.declared.state.Held.{Held}
 use Rattle.message.specs.declared.state.OpenMessage.{OpenMessage}
 
 -- everything that an event may change: the terminal, by core and queue, and card memory
@@ -17,13 +14,6 @@ pub record Card : Type 0 where
 
 abbrev pub card : Core → Queue → List ℕ → Card
 card core queue' ram = record { core = core; queue = queue'; ram = ram }
-
--- the card of a run, which holds core and ring by value: the queue's places and the RAM are lent
-abbrev pub holding : Core → Ring → Held
-holding core ring = record { core = core; ring = ring }
-
-abbrev pub card_of : Held → List ℕ → List ℕ → Card
-card_of held places ram = card held.core (queue places held.ring) ram
 
 -- ---- the card with one part set anew
 

@@ -6,12 +6,10 @@ use crate::state::Core;
 use message::state::{OpenMessage, Stage};
 
 impl Core {
-    // The open message goes on behind a row of its words, with so many taken.
-    pub fn after_row(self, message: OpenMessage, taken: u16) -> Core
-        ensures { result ≡ with_taken taken message self }
+    // The open message goes on behind its words, with so many taken.
+    pub fn after_row(&mut self, message: OpenMessage, taken: u16)
+        ensures { self.new ≡ with_taken taken message self.old }
     {
-        let second = message.second;
-        let next = message.further(Stage::Data, second, taken);
-        self.with_message(Some(next))
+        self.message = Some(message.further(Stage::Data, message.second, taken));
     }
 }

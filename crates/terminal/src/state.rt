@@ -1,18 +1,11 @@
-// What the terminal holds, a setter for each part that is set alone, and setup.
+// What the terminal holds, what the host sets of it, and setup.
 ghost use Rattle.std.specs.Prelude.{◌≡◌};
 ghost use Rattle.message.specs.Message.{moved_message};
-ghost use Rattle.terminal.specs.State.{
-  with_table,
-  with_flags,
-  with_status,
-  with_message,
-  core_at_setup,
-};
+ghost use Rattle.terminal.specs.State.{with_table, with_flags, with_message, core_at_setup};
 
 use card::place::Block;
 use message::state;
 use message::state::OpenMessage;
-use queue::Ring;
 
 // The lines that are shut.
 #[derive(Clone, Copy)]
@@ -21,7 +14,7 @@ pub struct Shut {
     pub b: bool,
 }
 
-// All but the queue: small enough to go by value through every word of a run.
+// All but the queue.
 #[derive(Clone, Copy)]
 pub struct Core {
     pub station: u16,
@@ -35,13 +28,6 @@ pub struct Core {
     pub inhibit: bool,
     // the open message
     pub message: Option<OpenMessage>,
-}
-
-// What a run carries by value from field to field. The queue's places and the RAM are lent.
-#[derive(Clone, Copy)]
-pub struct Held {
-    pub core: Core,
-    pub ring: Ring,
 }
 
 // What the terminal puts on the bus. Words to send are named by their block and count, and shown as
@@ -68,69 +54,36 @@ pub enum Answer {
     QueueWord(u16),
 }
 
-// What a silence brings: what is held after it, and the reply.
-#[derive(Clone, Copy)]
-pub struct Heard {
-    pub held: Held,
-    pub reply: Reply,
-}
-
 impl Core {
-    pub(crate) fn with_status(mut self, status: u16) -> Core
-        ensures { result ≡ with_status status self }
-    {
-        self.status = status;
-        self
-    }
-
-    pub(crate) fn with_message(self, message: Option<OpenMessage>) -> Core
-        ensures { result ≡ with_message message self }
-    {
-        let table = self.table;
-        let shut = self.shut;
-        Core {
-            station: self.station,
-            table: table,
-            flags: self.flags,
-            status: self.status,
-            last: self.last,
-            shut: shut,
-            inhibit: self.inhibit,
-            message: message,
-        }
-    }
-
-    pub fn move_table(self, table: Block) -> Core
-        ensures { result
-            ≡ with_table table (with_message (moved_message self.message) self) }
-    {
-        let old = self.message;
-        let message = state::moved_message(old);
-        let mut core = self.with_message(message);
-        core.table = table;
-        core
-    }
-
-    pub fn set_flags(mut self, flags: u16) -> Core
-        ensures { result ≡ with_flags flags self }
-    {
-        self.flags = flags;
-        self
-    }
-
     // Remembered status = station × 2,048; all else zero, nothing open. A station has five bits.
     pub fn at_setup(station: u16, table: Block, flags: u16) -> Core
         ensures { result ≡ core_at_setup station table flags }
     {
         Core {
-            station: station,
-            table: table,
-            flags: flags,
+            station,
+            table,
+            flags,
             status: station % 32 * 2048,
             last: 0,
             shut: Shut { a: false, b: false },
             inhibit: false,
             message: None,
         }
+    }
+
+    // The host sets the table block.
+    pub fn move_table(&mut self, table: Block)
+        ensures { self.new
+            ≡ with_table table (with_message (moved_message self.old.message) self.old) }
+    {
+        self.table = table;
+        self.message = state::moved_message(self.message);
+    }
+
+    // The host writes the flags.
+    pub fn set_flags(&mut self, flags: u16)
+        ensures { self.new ≡ with_flags flags self.old }
+    {
+        self.flags = flags;
     }
 }

@@ -156,7 +156,8 @@ module _ (heard : Word) (has : (asked_of heard.value).block ≡ true) where
   idle_takes true old opened = opening_takes old
   idle_takes false old opened = absurd (opened refl)
 
-  word_met_takes : (message : Option OpenMessage) (old : Card) → (word_met message heard old).opened ≢ none
+  word_met_takes : (message : Option OpenMessage) (old : Card)
+      → (word_met message heard old).opened ≢ none
       → Takes (word_met message heard old).card old.core.table
   word_met_takes None old opened =
       idle_takes (own_command old.core.station old.core.flags heard) old opened

@@ -1,7 +1,21 @@
 -- The chain rule, for memory of any length: a closing, sound or broken, takes its chain on by the
 -- link of its block, and the next opening by that table cell takes the block that the link names.
 -- Definitions only; proved in `proofs/ChainLaws`. Assumes nothing.
-use Rattle.std.specs.Prelude.{◌≡◌, ◌≢◌, true, false, List, [], ◌∷◌, ◌++◌, ℕ, ◌<◌, length, Option, Some}
+use Rattle.std.specs.Prelude.{
+  ◌≡◌,
+  ◌≢◌,
+  true,
+  false,
+  List,
+  [],
+  ◌∷◌,
+  ◌++◌,
+  ℕ,
+  ◌<◌,
+  length,
+  Option,
+  Some,
+}
 use Rattle.bus.specs.declared.word.Word.{Word}
 use Rattle.card.specs.Memory.{the_cell, cell_at}
 use Rattle.card.specs.TableWord.{block_of}

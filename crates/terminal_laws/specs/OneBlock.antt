@@ -1,6 +1,25 @@
 -- One broken message costs one block: what is asked of two runs, `BrokenMessage`, and what is then
 -- the same in both, `SameAfter`. Definitions only; proved in `proofs/OneBlock`. Assumes nothing.
-use Rattle.std.specs.Prelude.{◌≡◌, ◌≢◌, Bool, true, false, List, [], ◌∷◌, ℕ, ◌≤◌, ◌<◌, length, get_or, take, drop, None, Option, Some}
+use Rattle.std.specs.Prelude.{
+  ◌≡◌,
+  ◌≢◌,
+  Bool,
+  true,
+  false,
+  List,
+  [],
+  ◌∷◌,
+  ℕ,
+  ◌≤◌,
+  ◌<◌,
+  length,
+  get_or,
+  take,
+  drop,
+  None,
+  Option,
+  Some,
+}
 use Rattle.bus.specs.declared.kind.Kind.TheVariants.{Receive, ModeStatus, ModeLast}
 use Rattle.bus.specs.declared.word.Word.{Word}
 use Rattle.bus.specs.Kind.{kind_of}

@@ -1,13 +1,9 @@
 -- The mathematics of a tray run, as the code makes it. What holds of every run is in `tray_laws`.
---     HappenLaws    what a field tells comes about: a law for each kind of field
 --     LineLaws      the line of an answer
 --     TurnLaws      one field of a window, as the code takes it
 --     RowTurns      a row of data words, taken at once, is as many turns
---     LoopLaws      field after field
 --     Determined    each public contract allows one outcome alone
-pub mod HappenLaws
 pub mod LineLaws
 pub mod TurnLaws
 pub mod RowTurns
-pub mod LoopLaws
 pub mod Determined

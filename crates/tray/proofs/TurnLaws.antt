@@ -1,81 +1,59 @@
--- The laws of `specs/AsCoded/Window.antt`, as the code takes one field of a window. Assumes
--- nothing.
+-- One field of a window, as the code takes it. Assumes nothing.
 use Rattle.std.proofs.Common.{
   ◌≡◌,
   ℕ,
   ◌+◌,
   ◌-◌,
-  ◌%◌,
-  ◌^◌,
-  ◌<◌,
-  ◌≤◌,
-  Bool,
   List,
-  length,
+  Option,
+  Some,
+  None,
+  Result,
+  Ok,
+  Err,
   sym,
   ap,
   ◌∙◌,
   arith,
 }
+use Rattle.refusals.specs.Number.{number_of}
+use Rattle.terminal.specs.declared.state.Core.{Core}
+use Rattle.terminal.specs.declared.state.Answer.{Answer}
+use Rattle.queue.specs.declared.Queue.{Queue}
+use Rattle.terminal.specs.State.{card}
 use Rattle.terminal.specs.Event.{shown}
-use Rattle.terminal.specs.State.{card_of}
 use Rattle.recording.specs.declared.field.Field.{Field}
 use Rattle.recording.specs.declared.seen.Seen.{Seen}
 use Rattle.recording.specs.declared.field.Field.TheVariants.{HostWrite}
-use Rattle.recording.specs.declared.reading.Reading.{Reading}
-use Rattle.recording.specs.declared.reading.Reading.TheVariants.{Taken, End, Refused}
+use Rattle.recording.specs.declared.reading.Taken.{Taken as FieldTaken}
+use Rattle.recording.specs.declared.reading.Refused.{Refused as FieldRefused}
 use Rattle.recording.specs.Seen.{seen_after}
-use Rattle.recording.specs.Reading.{read_at}
+use Rattle.recording.specs.Reading.{Taken, read_at, reading}
 use Rattle.recording.specs.Value.{valued_at}
 use Rattle.recording.proofs.TakenLaws.{taken_within}
 use Rattle.recording.proofs.InOrder.{taken_in_order}
 use Rattle.recording.proofs.TakenWords.{taken_words_there}
-use Rattle.lines.specs.Written.{put, line_room, line_written}
-use Rattle.pieces.specs.declared.stop.Stop.{Stop}
-use Rattle.pieces.specs.declared.stop.Stop.TheVariants.{Going, Full}
-use Rattle.pieces.specs.AsCoded.Window as pieces
-use Rattle.pieces.proofs.TurnLaws as general
-use Rattle.tray.specs.declared.field.Shown.{Shown as HeldShown}
-use Rattle.tray.specs.declared.window.Passed.{Passed as HeldPassed}
+use Rattle.lines.specs.Written.{put, line_written}
+use Rattle.pieces.specs.LastLine.{counted}
+use Rattle.pieces.specs.AsCoded.Runner.{FieldLeft, field_left, field_run}
+use Rattle.tray.specs.declared.run.Tray.{Tray as HeldTray}
 use Rattle.tray.specs.Happening.{happening_of, happened}
-use Rattle.tray.specs.Run.{answer_line, taking, taking_line, met_by, tray_course}
-use Rattle.tray.specs.AsCoded.Window.{Passed, takes, turn}
-use Rattle.tray.specs.AsCoded.Held.{tray_of, passed_of, WordsThere, WasRead}
+use Rattle.tray.specs.Run.{Tray, answer_line, taking, taking_line, met_by, tray_course}
+use Rattle.tray.specs.AsCoded.Held.{tray_of, WasRead}
 
--- ---- a field that is taken
-
-module _ (ran : HeldPassed) (places ram out window : List ℕ) (told : Field) (next : ℕ) where
-  abbrev old : Passed
-  old = passed_of ran places ram out
-
-  pub field_taken : (left : HeldShown) (places' ram' out' : List ℕ) (put' fields offset : ℕ)
-      (seen : Seen)
-      → shown (card_of left.held places' ram') left.answer
-      ≡ happened (happening_of (valued_at window told)) (card_of ran.tray.held places ram)
-      → put put' out' ≡ line_written out ran.put (answer_line ram' left.answer)
-      → seen ≡ seen_after told ran.tray.seen
-      → fields ≡ (ran.tray.fields + 1) % 2 ^ 64
-      → offset ≡ (ran.tray.offset + (next - ran.at)) % 2 ^ 64
-      → passed_of (record {
-        tray =
-            record { held = left.held; seen = seen; fields = fields; offset = offset };
-        at = next;
-        put = put';
-        stop = Going;
-      }) places' ram' out'
-      ≡ takes window told next old
-  unfolding takes taking taking_line
-  field_taken left places' ram' out' put' fields offset seen is_left is_put is_seen is_fields
-      is_offset =
-      rw (← is_left, ← is_put, is_seen, is_fields, is_offset)
+-- what the reader answers
+abbrev Answered : Type 0
+Answered = Result (Option FieldTaken) FieldRefused
 
 -- a field that was read has its words in the window, and ends further on
-pub reads_on : (window : List ℕ) (at : ℕ) (seen : Seen) (reading : Reading) (told : Field)
-    (next : ℕ)
-    → reading ≡ read_at window at seen → reading ≡ Taken told next
-    → WasRead window told at next
-reads_on window at seen reading told next is_reading is =
-    let taken : read_at window at seen ≡ Taken told next = sym is_reading ∙ is in
+pub reads_on : (window : List ℕ) (at : ℕ) (seen : Seen) (answer : Answered)
+    (found : Option FieldTaken) (told : FieldTaken)
+    → reading answer ≡ read_at window at seen → answer ≡ Ok found → found ≡ Some told
+    → WasRead window told.field at told.next
+reads_on window at seen answer found told is_reading is some =
+    let next : ℕ = told.next in
+    let taken : read_at window at seen ≡ Taken told.field next =
+    rw (is, some) at (sym is_reading) in
     record {
       words =
           record {
@@ -91,59 +69,43 @@ reads_on window at seen reading told next is_reading is =
       further = omega (arith, (taken_within window at seen taken).moves_on);
     }
 
--- what the record tells, for `search` and `omega`
-pub words_of_read : {window : List ℕ} {told : Field} {at next : ℕ} → WasRead window told at next
-    → WordsThere window told
-words_of_read read = read.words
+-- ---- what the code makes of a reading
 
-pub further_of_read : {window : List ℕ} {told : Field} {at next : ℕ}
-    → WasRead window told at next → at ≤ next
-further_of_read read = read.further
+module _ (old : HeldTray) (ram window : List ℕ) (at : ℕ) (out : List ℕ) (into : ℕ)
+    (answer : Answered) (is_reading : reading answer ≡ read_at window at old.seen) where
+  abbrev met : FieldLeft Tray
+  met = field_run (tray_course.meets (tray_of old ram) window at) (tray_of old ram) out into
 
-pub ruleset was_read = (words_of_read, further_of_read)
+  pub field_taken : (found : Option FieldTaken) (told : FieldTaken) → answer ≡ Ok found
+      → found ≡ Some told
+      → (core : Core) (queue : Queue) (brought : Answer) (ram' out' : List ℕ) (into' : ℕ)
+      → shown (card core queue ram') brought
+      ≡ happened (happening_of (valued_at window told.field)) (card old.core old.queue ram)
+      → put into' out' ≡ line_written out into (answer_line ram' brought)
+      → (new : HeldTray)
+      → new
+      ≡ record {
+        core = core;
+        queue = queue;
+        seen = seen_after told.field old.seen;
+        fields = counted (old.fields + 1);
+        offset = counted (old.offset + (told.next - at));
+      }
+      → field_left (Ok (Some (record { next = told.next; put = into' }))) (tray_of new ram') out'
+      ≡ met
+  unfolding field_run tray_course met_by taking taking_line
+  field_taken found told is some core queue brought ram' out' into' is_left is_put new is_new =
+      rw (← is_reading, is, some, ← is_left, ← is_put, is_new)
 
--- ---- a turn
+  pub end_met : (found : Option FieldTaken) → answer ≡ Ok found → found ≡ None
+      → field_left (Ok None) (tray_of old ram) out ≡ met
+  unfolding field_run tray_course met_by
+  end_met found is none = rw (← is_reading, is, none)
 
-module _ (ran : HeldPassed) (places ram out window : List ℕ) (last : Bool) (room : ℕ)
-    (is_room : room ≡ length out - ran.put) where
-  abbrev before : Passed
-  before = passed_of ran places ram out
+  pub refusal_met : (refused : FieldRefused) (number : ℕ) → answer ≡ Err refused
+      → number ≡ number_of refused.refusal
+      → field_left (Err number) (tray_of old ram) out ≡ met
+  unfolding field_run tray_course met_by
+  refusal_met refused number is is_number = rw (← is_reading, is, is_number)
 
-  pub turn_full : (left : HeldPassed) → room < line_room
-      → left ≡ record { tray = ran.tray; at = ran.at; put = ran.put; stop = Full }
-      → passed_of left places ram out ≡ turn window last before
-  turn_full left short is_left =
-      rw is_left (general.turn_full tray_course window last before (rw is_room at short))
-
-  module _ (reading : Reading) (enough : line_room ≤ room)
-      (is_reading : reading ≡ read_at window ran.at ran.tray.seen) where
-    turn_by : pieces.passing tray_course
-        (met_by reading window ran.at (tray_of ran.tray places ram)) last before
-        ≡ turn window last before
-    unfolding tray_course
-    turn_by =
-        general.turn_by tray_course window last before (rw is_room at enough)
-        (ap (λ (any : Reading). met_by any window ran.at before.run) (sym is_reading))
-
-    pub turn_takes : (told : Field) (next : ℕ) (new : Passed) → reading ≡ Taken told next
-        → new ≡ takes window told next before → new ≡ turn window last before
-    unfolding pieces.passing met_by takes
-    turn_takes told next new is is_new = rw (← turn_by, is) is_new
-
-    module _ (left : HeldPassed) (put' : ℕ) (stop : Stop) (out' : List ℕ)
-        (is_left : left ≡ record { tray = ran.tray; at = ran.at; put = put'; stop = stop }) where
-      pub turn_ends : reading ≡ End
-          → pieces.stopped (put put' out') stop
-          ≡ pieces.stopped_at 0 last ran.tray.fields ran.tray.offset out ran.put
-          → passed_of left places ram out' ≡ turn window last before
-      unfolding pieces.passing met_by tray_course
-      turn_ends is is_stopped = rw (← turn_by, is, is_left, ← is_stopped)
-
-      pub turn_refuses : (number place : ℕ) → reading ≡ Refused number place
-          → pieces.stopped (put put' out') stop
-          ≡ pieces.stopped_at number last ran.tray.fields ran.tray.offset out ran.put
-          → passed_of left places ram out' ≡ turn window last before
-      unfolding pieces.passing met_by tray_course
-      turn_refuses number place is is_stopped = rw (← turn_by, is, is_left, ← is_stopped)
-
-pub ruleset turning = (turn_full, turn_takes, turn_ends, turn_refuses)
+pub ruleset meeting = (end_met, refusal_met)

@@ -2,7 +2,5 @@
 -- comes to is said by the definitions beside this folder, and proved.
 --     Window    a call over a window, its lines in a lent buffer
 --     Held      what the code holds of a run
---     Row       a row of data words, taken at once
 pub mod Window
 pub mod Held
-pub mod Row

@@ -12,10 +12,8 @@ use Rattle.terminal.specs.Reply.{reply_words}
 use Rattle.terminal.specs.Event.{Shown}
 use Rattle.recording.specs.declared.field.Field.{Field}
 use Rattle.recording.specs.declared.seen.Seen.{Seen}
-use Rattle.recording.specs.declared.reading.Reading.{Reading}
-use Rattle.recording.specs.declared.reading.Reading.TheVariants.{Taken, End, Refused}
 use Rattle.recording.specs.Seen.{nothing_seen, seen_after}
-use Rattle.recording.specs.Reading.{read_at}
+use Rattle.recording.specs.Reading.{Reading, Taken, End, Refused, read_at}
 use Rattle.recording.specs.Value.{valued_at}
 use Rattle.lines.specs.Lines.{status_line, queue_line}
 use Rattle.pieces.specs.LastLine.{counted}

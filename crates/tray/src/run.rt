@@ -1,17 +1,17 @@
 // How far a run has come, and where it begins.
-ghost use Rattle.std.specs.Prelude.{◌≡◌};
-ghost use Rattle.tray.specs.AsCoded.Held.{held_at_start};
+ghost use Rattle.std.specs.Prelude.{◌≡◌, ◌+◌};
 
 use bus::limits::ALL_STATIONS;
 use card::place::Block;
-use queue::Ring;
+use queue::Queue;
 use recording::Seen;
-use terminal::state::{Core, Held};
+use terminal::state::Core;
 
-// How far a run has come. The queue's places and the RAM are lent.
+// How far a run has come. The RAM is lent.
 #[derive(Clone, Copy)]
 pub struct Tray {
-    pub held: Held,
+    pub core: Core,
+    pub queue: Queue,
     // what the reader has seen
     pub seen: Seen,
     // how many fields were taken
@@ -21,24 +21,30 @@ pub struct Tray {
 }
 
 impl Tray {
+    ghost use Rattle.pieces.specs.LastLine.{counted};
+    ghost use Rattle.tray.specs.AsCoded.Held.{held_at_start};
+
     // Before the first field: the core is of no station.
     pub fn at_start() -> Tray
         ensures { result ≡ held_at_start }
     {
-        let core = Core::at_setup(ALL_STATIONS, Block(0), 0);
-        let ring = Ring {
-            start: 0,
-            count: 0,
-            overflow: false,
-        };
         Tray {
-            held: Held {
-                core: core,
-                ring: ring,
-            },
+            core: Core::at_setup(ALL_STATIONS, Block(0), 0),
+            queue: Queue::empty(),
             seen: Seen::nothing(),
             fields: 0,
             offset: 0,
         }
+    }
+
+    // Counts fields that were taken, and their bytes.
+    pub(crate) fn pass(&mut self, fields: u64, bytes: u64)
+        ensures { self.new ≡ record self.old {
+          fields = counted (self.old.fields + fields);
+          offset = counted (self.old.offset + bytes);
+        } }
+    {
+        self.fields = self.fields.wrapping_add(fields);
+        self.offset = self.offset.wrapping_add(bytes);
     }
 }

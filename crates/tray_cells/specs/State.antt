@@ -1,6 +1,24 @@
 -- The lines of the terminal's state, an item a line; the items of an open message stand on one
 -- line. Definitions only. Assumes nothing.
-use Rattle.std.specs.Prelude.{Bool, cond, List, [], ◌∷◌, ◌++◌, ℕ, zero, suc, ◌+◌, ◌/◌, ◌%◌, eqb, get_or, None, Option, Some}
+use Rattle.std.specs.Prelude.{
+  Bool,
+  cond,
+  List,
+  [],
+  ◌∷◌,
+  ◌++◌,
+  ℕ,
+  zero,
+  suc,
+  ◌+◌,
+  ◌/◌,
+  ◌%◌,
+  eqb,
+  get_or,
+  None,
+  Option,
+  Some,
+}
 use Rattle.queue.specs.declared.Ring.{Ring}
 use Rattle.queue.specs.Queue.{queue_places}
 use Rattle.message.specs.declared.state.Stage.{Stage}

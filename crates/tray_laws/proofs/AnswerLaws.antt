@@ -7,10 +7,8 @@ use Prim.Native.Nat.{ℕ, zero, suc, ◌<◌}
 use native.Mathlib.Omega.{arith}
 use lib.ListN.{length, drop, length-append, length-drop}
 use Rattle.recording.specs.declared.seen.Seen.{Seen}
-use Rattle.recording.specs.declared.reading.Reading.{Reading}
-use Rattle.recording.specs.declared.reading.Reading.TheVariants.{Taken, End, Refused}
 use Rattle.recording.specs.Seen.{seen_after}
-use Rattle.recording.specs.Reading.{read_at}
+use Rattle.recording.specs.Reading.{Reading, Taken, End, Refused, read_at}
 use Rattle.recording.specs.Value.{Valued, valued_at}
 use Rattle.recording.specs.Accepted.{TakesFields, no_more, a_field, seen_after_all}
 use Rattle.recording.proofs.TakenLaws.{taken_within}

@@ -41,11 +41,9 @@ use Rattle.recording.specs.declared.field.Field.TheVariants.{
   MoveTable,
   SetFlags,
 }
-use Rattle.recording.specs.declared.reading.Reading.{Reading}
-use Rattle.recording.specs.declared.reading.Reading.TheVariants.{Taken, End, Refused}
 use Rattle.recording.specs.Bytes.{words_at}
 use Rattle.recording.specs.Field.{is_setup}
-use Rattle.recording.specs.Reading.{read_at}
+use Rattle.recording.specs.Reading.{Reading, Taken, End, Refused, read_at}
 use Rattle.recording.specs.Value.{valued_at}
 use Rattle.recording.proofs.WordsLaws.{length_words_at}
 use Rattle.recording.proofs.TakenLaws.{taken_within}

@@ -30,10 +30,9 @@ use Rattle.recording.specs.declared.tag.Tag.TheVariants.{
   HostWrite,
   MoveTable,
   SetFlags,
-  Unknown,
 }
 use Rattle.recording.specs.Bytes.{word_at}
-use Rattle.recording.specs.Tag.{tag_at, length_fits}
+use Rattle.recording.specs.Tag.{length_fits}
 use Rattle.recording.specs.Field.{field_at}
 use Rattle.recording.specs.Value.{valued_at}
 use Rattle.recording.proofs.TakenLaws.{taken_tells}
@@ -87,7 +86,6 @@ module _ (bytes : List ℕ) (value size : ℕ) (old : Tray) where
   line_by_size HostWrite fits = omega arith
   line_by_size MoveTable fits = omega arith
   line_by_size SetFlags fits = omega arith
-  line_by_size Unknown fits = omega (arith, queue_bytes (oldest_word old.card.queue))
 
 pub tray_lines_are_short : ShortLines tray_course 21
 tray_lines_are_short old bytes at next line new is =
@@ -96,7 +94,7 @@ tray_lines_are_short old bytes at next line new is =
     let size = word_at bytes (at + 1) in
     let short : length (taking_line bytes read.field old) ≤ 21 * (3 + size) =
     rw told.is_field
-    (line_by_size bytes (at + 3) size old (tag_at bytes at) told.there.fits) in
+    (line_by_size bytes (at + 3) size old told.tag told.there.fits) in
     let same : length (taking_line bytes read.field old) ≡ length line =
     ap length read.is_line_lem in
     omega (arith, short, same, told.is_next)

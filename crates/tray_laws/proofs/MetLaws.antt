@@ -5,9 +5,7 @@ use mathlib.Core.List.{List}
 use Prim.Native.Nat.{ℕ, ◌-◌}
 use Rattle.rules.proofs.Clash.{clash}
 use Rattle.recording.specs.declared.field.Field.{Field}
-use Rattle.recording.specs.declared.reading.Reading.{Reading}
-use Rattle.recording.specs.declared.reading.Reading.TheVariants.{Taken, End, Refused}
-use Rattle.recording.specs.Reading.{read_at}
+use Rattle.recording.specs.Reading.{Reading, Taken, End, Refused, read_at}
 use Rattle.pieces.specs.Course.{taken, refused}
 use Rattle.pieces.proofs.CourseLaws.{same_next, same_line, same_new, same_number}
 use Rattle.tray.specs.Run.{Tray, taking, taking_line, met_by, tray_course}

@@ -9,10 +9,8 @@ use lib.ListN.{length, drop, length-drop}
 use borrow.Author.Tests.{ne_eqb}
 use Rattle.recording.specs.declared.field.Field.{Field}
 use Rattle.recording.specs.declared.seen.Seen.{Seen}
-use Rattle.recording.specs.declared.reading.Reading.{Reading}
-use Rattle.recording.specs.declared.reading.Reading.TheVariants.{Taken, End, Refused}
 use Rattle.recording.specs.Seen.{seen_after}
-use Rattle.recording.specs.Reading.{read_at}
+use Rattle.recording.specs.Reading.{Reading, Taken, End, Refused, read_at}
 use Rattle.recording.specs.Value.{Valued, valued_at}
 use Rattle.recording.specs.Accepted.{TakesFields, no_more, a_field, seen_after_all, Accepted}
 use Rattle.recording.proofs.TakenLaws.{taken_within, is_reader_number, refused_names_place}

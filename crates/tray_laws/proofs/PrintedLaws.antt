@@ -5,9 +5,7 @@ use mathlib.Core.List.{List}
 use Prim.Native.Nat.{ℕ, ◌-◌, ◌<◌}
 use native.Mathlib.Omega.{arith}
 use lib.ListN.{length, drop}
-use Rattle.recording.specs.declared.reading.Reading.{Reading}
-use Rattle.recording.specs.declared.reading.Reading.TheVariants.{Taken, End, Refused}
-use Rattle.recording.specs.Reading.{read_at}
+use Rattle.recording.specs.Reading.{Reading, Taken, End, Refused, read_at}
 use Rattle.pieces.specs.LastLine.{last_line}
 use Rattle.pieces.specs.Whole as pieces
 use Rattle.pieces.proofs.WholeLaws as general

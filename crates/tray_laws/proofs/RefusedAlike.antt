@@ -3,6 +3,7 @@
 use mathlib.Core.Path.{◌≡◌, refl, sym, subst}
 use mathlib.Core.Bool.{Bool, true, false, cond, not, true≢false}
 use mathlib.Core.List.{List}
+use Rattle.std.proofs.Common.{Option, Some, None}
 use Prim.Native.Nat.{ℕ, ◌+◌, ◌-◌, ◌/◌}
 use lib.Dec.{eqb, ltb}
 use lib.ListN.{length}
@@ -39,13 +40,11 @@ use Rattle.recording.specs.declared.field.Field.TheVariants.{
   MoveTable,
   SetFlags,
 }
-use Rattle.recording.specs.declared.reading.Reading.{Reading}
-use Rattle.recording.specs.declared.reading.Reading.TheVariants.{Taken, End, Refused}
 use Rattle.recording.specs.Bytes.{bytes_left, byte_at, word_at, time_at}
-use Rattle.recording.specs.Tag.{tag_at, is_unknown, length_fits}
+use Rattle.recording.specs.Tag.{tag_at, length_fits}
 use Rattle.recording.specs.Field.{field_at, value_refusal}
 use Rattle.recording.specs.Seen.{is_due}
-use Rattle.recording.specs.Reading.{read_at}
+use Rattle.recording.specs.Reading.{Reading, Taken, End, Refused, read_by, read_at}
 use Rattle.recording.proofs.WordsLaws.{length_words_at}
 use Rattle.tray.specs.Run.{Tray}
 use Rattle.tray_laws.specs.Sound.{SoundTray}
@@ -133,7 +132,6 @@ module _ (bytes : List ℕ) (old : Tray) (sound : SoundTray old) where
       write_number bytes given (set_up_lem due) (word_at bytes 3) 5 ((size - 2) / 2)
   first_number tags.MoveTable fits due = table_number bytes given (set_up_lem due) (byte_at bytes 3)
   first_number tags.SetFlags fits due = flags_number bytes given (set_up_lem due) (byte_at bytes 3)
-  first_number tags.Unknown fits due = absurd (true≢false (sym fits))
 
   -- what a reading tells of the action's number
   abbrev Tells : Reading → Type 0
@@ -145,19 +143,23 @@ module _ (bytes : List ℕ) (old : Tray) (sound : SoundTray old) where
   reading_tells : Tells (read_at bytes 0 old.seen)
   unfolding read_at
   reading_tells =
-      by_test Tells (eqb (bytes_left bytes 0) 0) (λ _. tt) (λ _.
-      by_test Tells (is_unknown (tag_at bytes 0)) (λ _. other) (λ _.
-      by_test Tells (ltb (bytes_left bytes 0) 3) (λ _. other) (λ _.
-      by_test Tells (not (length_fits (tag_at bytes 0) size)) (λ _. other) (λ fits.
-      by_test Tells (ltb (bytes_left bytes 0) (3 + size)) (λ _. other) (λ _.
-      by_test Tells (not (is_due (tag_at bytes 0) old.seen)) (λ _. other) (λ due.
-      by_test Tells (eqb (value_refusal card_blocks (first_field bytes)) 0) (λ _. tt)
-      (λ _ _. first_number (tag_at bytes 0) (not-false (length_fits (tag_at bytes 0) size) fits)
-      (not-false (is_due (tag_at bytes 0) old.seen) due))))))))
+      by_test Tells (eqb (bytes_left bytes 0) 0) (λ _. tt) (λ _. by_tag (tag_at bytes 0) refl)
     where
       -- the number is another
       other : {refusal number : ℕ} → false ≡ true → refusal ≡ number
       other is = absurd (true≢false (sym is))
+
+      by_tag : (tag : Option Tag) → tag_at bytes 0 ≡ tag → Tells (read_by tag bytes 0 old.seen)
+      by_tag None unknown = other
+      by_tag (Some tag) known =
+          by_test Tells (ltb (bytes_left bytes 0) 3) (λ _. other) (λ _.
+          by_test Tells (not (length_fits tag size)) (λ _. other) (λ fits.
+          by_test Tells (ltb (bytes_left bytes 0) (3 + size)) (λ _. other) (λ _.
+          by_test Tells (not (is_due tag old.seen)) (λ _. other) (λ due.
+          by_test Tells (eqb (value_refusal card_blocks (field_at bytes tag 3 size)) 0) (λ _. tt)
+          (λ _ _. rw known
+          (first_number tag (not-false (length_fits tag size) fits)
+          (not-false (is_due tag old.seen) due)))))))
 
   pub refused_alike : {number place : ℕ} → read_at bytes 0 old.seen ≡ Refused number place
       → is_for_value number ≡ true

@@ -32,9 +32,8 @@ use Rattle.recording.specs.declared.field.Field.TheVariants.{
   MoveTable,
   SetFlags,
 }
-use Rattle.recording.specs.declared.reading.Reading.TheVariants.{Taken}
 use Rattle.recording.specs.Field.{is_setup}
-use Rattle.recording.specs.Reading.{read_at}
+use Rattle.recording.specs.Reading.{Taken, read_at}
 use Rattle.recording.specs.Value.{valued_at}
 use Rattle.recording.proofs.TakenLaws.{setup_by_turn}
 use Rattle.recording.proofs.InOrder.{InOrder, taken_in_order}

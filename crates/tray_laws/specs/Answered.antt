@@ -3,9 +3,7 @@
 -- last line. Definitions only; proved in `proofs/AnswerLaws`. Assumes nothing.
 use Rattle.std.specs.Prelude.{◌≡◌, List, [], ◌∷◌, ◌++◌, ℕ, ◌+◌, length}
 use Rattle.terminal.specs.State.{Card}
-use Rattle.recording.specs.declared.reading.Reading.{Reading}
-use Rattle.recording.specs.declared.reading.Reading.TheVariants.{End, Refused}
-use Rattle.recording.specs.Reading.{read_at}
+use Rattle.recording.specs.Reading.{Reading, End, Refused, read_at}
 use Rattle.recording.specs.Value.{Valued}
 use Rattle.recording.specs.Accepted.{TakesFields, seen_after_all}
 use Rattle.lines.specs.Lines.{end_line, refusal_line}

@@ -1,7 +1,20 @@
 -- A run by the library's actions: for each field the action that the library has for it, which
 -- refuses nothing. What a run does by itself, `happened` and `step`, has no part in it; that the
 -- two come to the same is proved in `proofs/ByActions.antt`. Definitions only. Assumes nothing.
-use Rattle.std.specs.Prelude.{◌≡◌, Bool, true, ◌||◌, List, ℕ, ◌+◌, eqb, drop}
+use Rattle.std.specs.Prelude.{
+  ◌≡◌,
+  Bool,
+  true,
+  ◌||◌,
+  Option,
+  Some,
+  None,
+  List,
+  ℕ,
+  ◌+◌,
+  eqb,
+  drop,
+}
 use Rattle.terminal.specs.declared.state.Reply.TheVariants.{Silent}
 use Rattle.terminal.specs.declared.state.Answer.{Answer}
 use Rattle.terminal.specs.State.{Card, card}
@@ -20,6 +33,7 @@ use Rattle.actions.specs.Actions.{
   terminal,
   setup_action,
 }
+use Rattle.recording.specs.declared.tag.Tag.{Tag}
 use Rattle.recording.specs.declared.field.Field.{Field}
 use Rattle.recording.specs.declared.field.Field.TheVariants.{
   Setup,
@@ -30,12 +44,11 @@ use Rattle.recording.specs.declared.field.Field.TheVariants.{
   MoveTable,
   SetFlags,
 }
-use Rattle.recording.specs.declared.reading.Reading.TheVariants.{Taken, End, Refused}
 use Rattle.recording.specs.Bytes.{word_at, words_at}
 use Rattle.recording.specs.Tag.{tag_at}
 use Rattle.recording.specs.Field.{field_at}
 use Rattle.recording.specs.Seen.{seen_after}
-use Rattle.recording.specs.Reading.{read_at}
+use Rattle.recording.specs.Reading.{Taken, End, Refused, read_at}
 use Rattle.pieces.specs.LastLine.{counted, last_line}
 use Rattle.pieces.specs.Whole.{whole, with_line}
 use Rattle.tray.specs.Run.{Tray, shown_line, Whole}
@@ -67,9 +80,14 @@ action_of bytes (SetFlags flags) = on_terminal (set_flags_action flags)
 
 -- ---- a field that is refused
 
--- the field at the front of the bytes, by its tag and its length
+-- the field at the front of the bytes, by its tag and its length. An unknown tag has no field: the
+-- reader refuses it before, and what holds nothing stands for it
+abbrev pub first_by : Option Tag → List ℕ → Field
+first_by None bytes = ReadQueue
+first_by (Some tag) bytes = field_at bytes tag 3 (word_at bytes 1)
+
 abbrev pub first_field : List ℕ → Field
-first_field bytes = field_at bytes (tag_at bytes 0) 3 (word_at bytes 1)
+first_field bytes = first_by (tag_at bytes 0) bytes
 
 -- the reader's numbers for what a field holds; its others are for how the field stands in the bytes
 abbrev pub is_for_value : ℕ → Bool

@@ -47,7 +47,8 @@ lines_of (told ∷ more) old = line_of told old ++ lines_of more (step told old)
 -- every line is the same, but for the message error bit in the S line of a reply to "transmit
 -- status word" or "transmit last command"
 pub data SameLine : Bool → Option OpenMessage → List ℕ → List ℕ → Type 0 where
-  same : {before : Bool} {message : Option OpenMessage} {line : List ℕ} → SameLine before message line line
+  same : {before : Bool} {message : Option OpenMessage} {line : List ℕ}
+      → SameLine before message line line
   status_but_error : {message : OpenMessage} (status other : ℕ)
       → kind_of message.command ≡ ModeStatus → without_error status ≡ without_error other
       → SameLine true (Some message) (status_line status []) (status_line other [])

@@ -4,14 +4,12 @@ use Rattle.refusals.specs.declared.Refusal.{Refusal}
 use Rattle.recording.specs.declared.field.Field.TheVariants.{HostWrite}
 use Rattle.recording.specs.Bytes.{bytes_left}
 use Rattle.recording.specs.Seen.{nothing_seen}
-use Rattle.pieces.specs.AsCoded.Window as pieces
 use Rattle.controller.specs.State.{desk, at_setup}
 use Rattle.desk.specs.declared.field.Field.{Field}
 use Rattle.desk.specs.declared.field.Field.TheVariants.{Shared}
 use Rattle.desk.specs.declared.deed.Answer.{Answer}
 use Rattle.desk.specs.declared.deed.Answer.TheVariants.{Gave}
 use Rattle.desk.specs.declared.run.Run.{Run as HeldRun}
-use Rattle.desk.specs.declared.window.Passed.{Passed as HeldPassed}
 use Rattle.desk.specs.Run.{Run}
 
 -- the memory is lent
@@ -27,17 +25,6 @@ run_of run ram =
 -- before the first field
 unfoldable pub held_at_start : HeldRun
 held_at_start = record { controller = at_setup 0 0; seen = nothing_seen; fields = 0; offset = 0 }
-
--- so is the buffer
-abbrev pub passed_of : HeldPassed → List ℕ → List ℕ → pieces.Passed Run
-passed_of ran ram out =
-    record {
-      run = run_of ran.run ram;
-      at = ran.at;
-      put = ran.put;
-      out = out;
-      stop = ran.stop;
-    }
 
 -- what comes of a field: of a start that is refused no words
 abbrev pub answer_in : Result Answer Refusal → Answer

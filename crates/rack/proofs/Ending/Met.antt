@@ -130,8 +130,8 @@ module _ (line : Bool) (Holds : ℕ → Stage → Type 0) where
       → Met (step (word (data_word line value time)) now).card
   unfolding step word_step own_command
   idle_data value time now is =
-      subst (λ (any : Option OpenMessage).
-      Met (word_met any (data_word line value time) now).card) (sym is)
+      subst (λ (any : Option OpenMessage). Met (word_met any (data_word line value time) now).card)
+      (sym is)
       (idle is)
 
   one_data : (value time : ℕ) (now : Card) → Met now

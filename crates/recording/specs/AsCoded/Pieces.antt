@@ -10,8 +10,7 @@ use Rattle.recording.specs.declared.field.Field.TheVariants.{
   MoveTable,
   SetFlags,
 }
-use Rattle.recording.specs.declared.reading.Reading.{Reading}
-use Rattle.recording.specs.declared.reading.Reading.TheVariants.{Taken, End, Refused}
+use Rattle.recording.specs.Reading.{Reading, Taken, End, Refused}
 
 -- whether a reading stands, whatever bytes come behind: all do but the end and refusal 5
 abbrev pub is_settled : Reading → Bool

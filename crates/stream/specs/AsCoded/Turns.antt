@@ -1,5 +1,5 @@
--- A turn of a program that reads a recording in pieces and writes its lines: what a call leaves to
--- do. Definitions only. Assumes nothing.
+-- A turn of a program that reads a recording in pieces and writes its lines. Definitions only.
+-- Assumes nothing.
 use Rattle.std.specs.Prelude.{
   ◌≡◌,
   ◌≢◌,
@@ -7,96 +7,80 @@ use Rattle.std.specs.Prelude.{
   true,
   false,
   List,
+  [],
+  ◌∷◌,
   ◌++◌,
   ℕ,
-  ◌+◌,
   ◌≤◌,
-  eqb,
-  ℤ,
-  pos,
-  negsuc,
+  ◌<◌,
   length,
-  take,
+  drop,
+  Result,
+  Ok,
+  IsErr,
+  OnOk,
+  Option,
 }
-use Rattle.lines.specs.Written.{put}
-use Rattle.pieces.specs.declared.stop.Stop.{Stop}
+use Rattle.std.specs.Io.KnownBytes.{Consumes, Appends, IsAtEnd}
 use Rattle.pieces.specs.declared.stop.Stop.TheVariants.{Hungry, Over}
-use Rattle.pieces.specs.AsCoded.Rest.{kept_rest}
-use Rattle.stream.specs.declared.Heard.{Heard}
-use Rattle.stream.specs.declared.Pump.{Pump}
+use Rattle.pieces.specs.Course.{Course}
+use Rattle.pieces.specs.AsCoded.Window.{Passed, window_run}
+use Rattle.pieces.specs.AsCoded.Pieces.{lines_put}
 use Rattle.stream.specs.Progress.{buffer_bytes}
 
--- so many bytes of the window count, and both buffers have their size
-pub record Buffers (have : ℕ) (window out : List ℕ) : Type 0 where
-  pub inside : have ≤ length window
-  pub window_size : length window ≡ buffer_bytes
-  pub out_size : length out ≡ buffer_bytes
+-- what is left of the input in the window, and whether no more comes
+pub record Left : Type 0 where
+  pub bytes : List ℕ
+  pub ended : Bool
 
--- ---- a read
+abbrev pub nothing_left : Left
+nothing_left = record { bytes = []; ended = false }
 
--- whether an answer tells that a read failed
-abbrev pub is_failure : ℤ → Bool
-is_failure (pos count) = false
-is_failure (negsuc count) = true
+-- the bytes before a place are taken
+abbrev pub behind : ℕ → Left → Left
+behind at old = record { bytes = drop at old.bytes; ended = old.ended }
 
--- how many bytes it tells to have come
-abbrev pub bytes_told : ℤ → ℕ
-bytes_told (pos count) = count
-bytes_told (negsuc count) = 0
+-- a piece is read behind the bytes that are there; one of no bytes is the end of the input
+abbrev pub is_nothing : List ℕ → Bool
+is_nothing [] = true
+is_nothing (byte ∷ more) = false
 
--- a piece was read behind the bytes that were there, as long as the answer tells
-pub record Grown (window : List ℕ) (have : ℕ) (window' : List ℕ) (heard : Heard) : Type 0 where
+abbrev pub with_piece : List ℕ → Left → Left
+with_piece piece old = record { bytes = old.bytes ++ piece; ended = is_nothing piece }
+
+-- what the input has yet to give, where that is known, gives the piece; it gives nothing only where
+-- nothing is left, if there was room to read into
+pub record ReadOn (old new : Left) (given given' : Option (List ℕ)) : Type 0 where
   pub piece : List ℕ
-  pub as_told : length piece ≡ bytes_told heard.answer
-  pub is_more : heard.have ≡ have + length piece
-  pub behind : take heard.have window' ≡ take have window ++ piece
-  pub inside : heard.have ≤ length window'
-
--- where it failed the program is over; else the input has ended where nothing came
-abbrev pub after_read : Pump → Heard → Pump
-after_read old heard =
-    record {
-      have = heard.have;
-      ended = eqb heard.have old.have;
-      over = is_failure heard.answer;
-      whole = false;
-    }
-
--- so a read makes of the program what it is then
-pub record ReadOn (old : Pump) (window : List ℕ) (new : Pump) (window' : List ℕ) : Type 0 where
-  pub heard : Heard
-  pub grown : Grown window old.have window' heard
-  pub is_new : new ≡ after_read old heard
+  pub is_new : new ≡ with_piece piece old
+  pub given_lem : Consumes given given' piece
+  pub at_end : piece ≡ [] → length old.bytes < buffer_bytes → IsAtEnd given'
 
 -- ---- what a call leaves to do
 
--- the program is over, by the run's own end or not
-abbrev pub ending_with : Bool → Pump → Pump
-ending_with whole old =
-    record { have = old.have; ended = old.ended; over = true; whole = whole }
+pub data Settled {Run Error : Type 0} (call : Passed Run) (old new : Left)
+    (given given' : Option (List ℕ)) (told : Result Bool Error) : Type 0 where
+  -- its lines were not all taken, be they the last of the run
+  breaks_off : call.put ≢ 0 → IsErr told → Settled call old new given given' told
+  -- a read failed
+  unread : call.stop ≡ Hungry → IsErr told → Settled call old new given given' told
+  -- the run is over
+  ends : call.stop ≡ Over → told ≡ Ok true → Settled call old new given given' told
+  -- it had no room for more
+  stays : call.stop ≢ Over → call.stop ≢ Hungry → new ≡ behind call.at old → given' ≡ given
+      → told ≡ Ok false → Settled call old new given given' told
+  -- it needed bytes, and a piece was read
+  reads : {after : Left} → call.stop ≡ Hungry → after ≡ behind call.at old
+      → ReadOn after new given given' → told ≡ Ok false → Settled call old new given given' told
 
--- nothing, if its lines were not taken, or if it had no room for more; a run that has come to its
--- end is whole only if they were
-pub data AfterCall (pump : Pump) (window : List ℕ) : Stop → Pump → List ℕ → Type 0 where
-  breaks_off : {stop : Stop} → pump.over ≡ true → AfterCall pump window stop pump window
-  stays : {stop : Stop} → pump.over ≡ false → stop ≢ Over → stop ≢ Hungry
-      → AfterCall pump window stop pump window
-  ends_run : {next : Pump} → pump.over ≡ false → next ≡ ending_with true pump
-      → AfterCall pump window Over next window
-  reads_on : {next : Pump} {window' : List ℕ} → pump.over ≡ false
-      → ReadOn pump window next window' → AfterCall pump window Hungry next window'
-  -- there is no room to read into, which no call leaves that needs bytes
-  no_room : {next : Pump} → pump.over ≡ false → length window ≤ pump.have
-      → next ≡ ending_with false pump → AfterCall pump window Hungry next window
-
--- a call took so many bytes and put so many: its lines were written or not, which tells whether the
--- program is over, the bytes that it did not take are kept, and what is left to do then is done
-pub record Settled (old : Pump) (window : List ℕ) (at lines : ℕ) (stop : Stop)
-    (new : Pump) (window' : List ℕ) : Type 0 where
-  pub called : Pump
-  pub kept : List ℕ
-  pub is_kept : put called.have kept ≡ kept_rest window at old.have
-  pub breaks : called.over ≡ true → lines ≢ 0
-  pub same_end : called.ended ≡ old.ended
-  pub not_whole : called.whole ≡ false
-  pub behind : AfterCall called kept stop new window'
+-- a turn is a call, and what it leaves to do; unless it fails, what the output holds, where that is
+-- known, has grown by the lines of the call
+pub record Turned {Run Error : Type 0} (course : Course Run) (old : Run) (left : Left)
+    (out : List ℕ) (new : Run) (left' : Left) (given given' held held' : Option (List ℕ))
+    (told : Result Bool Error) : Type 0 where
+  pub few : length left.bytes ≤ buffer_bytes
+  pub is_new : new ≡ (window_run course old left.bytes left.ended out).run
+  pub written : OnOk told
+      (Appends held held' (lines_put (window_run course old left.bytes left.ended out)))
+  pub settled : Settled (window_run course old left.bytes left.ended out) left left' given given'
+      told

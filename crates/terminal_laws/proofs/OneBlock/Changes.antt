@@ -95,7 +95,8 @@ both_closed {Spent} {ram} {other} asked state time message agree = go asked.bloc
 -- ---- the remembered status at an opening
 
 -- a message of another command makes it anew, the same in both
-statuses_opened : {before : Bool} {message : Option OpenMessage} (kind : Kind) (table_word : ℕ) (word : Word)
+statuses_opened : {before : Bool} {message : Option OpenMessage}
+    (kind : Kind) (table_word : ℕ) (word : Word)
     (core : Core) (status : ℕ) → kind_of word.value ≡ kind
     → Statuses before message core.status status
     → Statuses (still_before before (opened_by (asked_by kind word.value)))

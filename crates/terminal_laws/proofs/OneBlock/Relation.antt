@@ -32,7 +32,8 @@ pub data Asking : Option OpenMessage → Type 0 where
 
 -- the same; or, before any other command opens a message, the same but for the message error bit
 pub data Statuses : Bool → Option OpenMessage → ℕ → ℕ → Type 0 where
-  equal : {before : Bool} {message : Option OpenMessage} {status : ℕ} → Statuses before message status status
+  equal : {before : Bool} {message : Option OpenMessage} {status : ℕ}
+      → Statuses before message status status
   but_error : {message : Option OpenMessage} {status other : ℕ} → Asking message
       → without_error status ≡ without_error other → Statuses true message status other
 

@@ -276,7 +276,8 @@ module _ {Spent : Block → Type 0} {before : Bool} {here there : Card} where
       here.ram there.ram related.cells unspent related.statuses event)
 
 -- what the relation shows of an outcome
-pub still_same : {Spent : Block → Type 0} {before : Bool} (message : Option OpenMessage) (event : Event)
+pub still_same : {Spent : Block → Type 0} {before : Bool}
+    (message : Option OpenMessage) (event : Event)
     (here there : Card)
     → ((status : ℕ) (block : Block) (count : ℕ)
     → (step event here).answer ≡ Replied (Words status block count) → Spent block → ⊥)

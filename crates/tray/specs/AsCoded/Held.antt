@@ -1,24 +1,22 @@
 -- What the code holds of a run, as the definitions have it. Definitions only. Assumes nothing.
-use Rattle.std.specs.Prelude.{◌≡◌, ℕ, ◌*◌, ◌≤◌, false, List}
+use Rattle.std.specs.Prelude.{◌≡◌, ℕ, ◌*◌, ◌≤◌, List}
 use Rattle.bus.specs.Limits.{all_stations}
 use Rattle.card.specs.Memory.{the_block}
-use Rattle.queue.specs.Queue.{ring_of}
-use Rattle.terminal.specs.State.{card_of, core_at_setup}
+use Rattle.queue.specs.Queue.{empty_queue}
+use Rattle.terminal.specs.State.{card, core_at_setup}
 use Rattle.recording.specs.declared.field.Field.{Field}
 use Rattle.recording.specs.declared.field.Field.TheVariants.{HostWrite}
 use Rattle.recording.specs.Bytes.{bytes_left}
 use Rattle.recording.specs.Seen.{nothing_seen}
 use Rattle.tray.specs.declared.run.Tray.{Tray as HeldTray}
-use Rattle.tray.specs.declared.window.Passed.{Passed as HeldPassed}
 use Rattle.tray.specs.Run.{Tray}
-use Rattle.tray.specs.AsCoded.Window.{Passed}
 
--- the queue's places and the RAM are lent
-abbrev pub tray_of : HeldTray → List ℕ → List ℕ → Tray
-tray_of run places ram =
+-- the RAM is lent
+abbrev pub tray_of : HeldTray → List ℕ → Tray
+tray_of run ram =
     record {
       seen = run.seen;
-      card = card_of run.held places ram;
+      card = card run.core run.queue ram;
       fields = run.fields;
       offset = run.offset;
     }
@@ -27,21 +25,11 @@ tray_of run places ram =
 unfoldable pub held_at_start : HeldTray
 held_at_start =
     record {
-      held = record { core = core_at_setup all_stations (the_block 0) 0; ring = ring_of 0 0 false };
+      core = core_at_setup all_stations (the_block 0) 0;
+      queue = empty_queue;
       seen = nothing_seen;
       fields = 0;
       offset = 0;
-    }
-
--- so is the buffer
-abbrev pub passed_of : HeldPassed → List ℕ → List ℕ → List ℕ → Passed
-passed_of ran places ram out =
-    record {
-      run = tray_of ran.tray places ram;
-      at = ran.at;
-      put = ran.put;
-      out = out;
-      stop = ran.stop;
     }
 
 -- ---- what a field brings that was read

@@ -1,23 +1,12 @@
--- A tray run through a window of the recording: the calls of `pieces`, over the course of a tray
--- run. Definitions only. Assumes nothing.
-use Rattle.std.specs.Prelude.{ℕ, ◌-◌, Bool, List}
-use Rattle.recording.specs.declared.field.Field.{Field}
+-- A tray run through a window of the recording: the call of `pieces`, over the course of a tray run.
+-- Definitions only. Assumes nothing.
+use Rattle.std.specs.Prelude.{ℕ, Bool, List}
 use Rattle.pieces.specs.AsCoded.Window as pieces
-use Rattle.tray.specs.Run.{Tray, taking, taking_line, tray_course}
+use Rattle.tray.specs.Run.{Tray, tray_course}
 
 -- the run, the place in the window, the place in the buffer, the buffer, and why it stopped
 abbrev pub Passed : Type 0
 Passed = pieces.Passed Tray
-
--- a field is taken, and its line is printed
-unfoldable pub takes : List ℕ → Field → ℕ → Passed → Passed
-takes window field next old =
-    pieces.takes next (taking_line window field old.run)
-    (taking window field (next - old.at) old.run) old
-
--- one field, if there is room for its line
-abbrev pub turn : List ℕ → Bool → Passed → Passed
-turn window last old = pieces.turn tray_course window last old
 
 -- field after field, in so many turns at the most
 abbrev pub turns : ℕ → List ℕ → Bool → Passed → Passed

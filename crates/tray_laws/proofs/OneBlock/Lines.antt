@@ -47,7 +47,8 @@ same_answer_line (Replied (Words status block count)) ram other long words =
 same_answer_line (Replied (Last status last)) ram other long words = refl
 same_answer_line (QueueWord oldest) ram other long words = refl
 
-same_line : {before : Bool} {message : Option OpenMessage} {answer answer' : Answer} (ram other : List ℕ)
+same_line : {before : Bool} {message : Option OpenMessage} {answer answer' : Answer}
+    (ram other : List ℕ)
     → length ram ≡ length other → SameAnswer before message answer answer'
     → ((status : ℕ) (block : Block) (count : ℕ) → answer ≡ Replied (Words status block count)
     → take count (drop (word_address block (the_cell 0)) ram)

@@ -1,10 +1,18 @@
--- `actions::Terminal::read_queue` meets its contract: a law for each answer. Assumes nothing.
-use borrow.Author.Rules.{rules}
-use Rattle.actions.proofs.ActionLaws.{on_terminal}
+-- `actions::Terminal::read_queue` meets its contract: refused, or read. Assumes nothing.
+use Rattle.terminal.specs.Machine.{step, read_queue_step}
+use Rattle.actions.specs.Actions.{read_queue_action}
 use Rattle.actions.proofs.Terminal.read_queue.Goals as goal
 
 pub returns-then-not-is_fit : goal.returns-then-not-is_fit
-returns-then-not-is_fit c = search (rules, on_terminal) depth 9
+unfolding read_queue_action
+returns-then-not-is_fit c = rw (← c.is_fit.ensures, c.if-not-is_fit.true)
 
 pub returns : goal.returns
-returns c = search (rules, on_terminal) depth 9
+unfolding read_queue_action read_queue_step step
+returns c =
+    rw (
+      ← c.is_fit.ensures,
+      c.if-not-is_fit.false,
+      c.read-word.ensures.word,
+      c.read-word.ensures.left,
+    )

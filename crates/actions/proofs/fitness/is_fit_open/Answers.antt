@@ -1,5 +1,4 @@
--- `actions::fitness::is_fit_open` meets its contract: its tests are those that the calls answer.
--- Assumes nothing.
+-- `actions::fitness::is_fit_open` meets its contract. Assumes nothing.
 use Rattle.message.specs.Fitness.{fit_open}
 use Rattle.actions.proofs.fitness.is_fit_open.Goals as goal
 

@@ -1,5 +1,16 @@
--- `queue::Queue::read` meets its contract: the ring is read over the places. Assumes nothing.
+-- `queue::Queue::read` meets its contract, empty and not. Assumes nothing.
+use borrow.Author.Rules.{rules}
+use Rattle.queue.proofs.QueueLaws.{reads}
 use Rattle.queue.proofs.Queue.read.Goals as goal
 
-pub returns : goal.returns
-returns c = rw c.read-taken.ensures
+pub returns-then-self-eq0-clause-word : goal.returns-then-self-eq0-clause-word
+returns-then-self-eq0-clause-word c = search (rules, reads)
+
+pub returns-then-self-eq0-clause-left : goal.returns-then-self-eq0-clause-left
+returns-then-self-eq0-clause-left c = search (rules, reads)
+
+pub returns-clause-word : goal.returns-clause-word
+returns-clause-word c = search (rules, reads)
+
+pub returns-clause-left : goal.returns-clause-left
+returns-clause-left c = search (rules, reads)

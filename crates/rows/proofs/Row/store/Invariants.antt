@@ -5,8 +5,8 @@ use Rattle.rows.proofs.Row.store.Given as goal
 
 abbrev pub invariant-loop-cell : goal.invariant-loop-cell
 invariant-loop-cell l =
-    RowSoFar l.bytes l.line l.block l.end l.initial.cell l.initial.at l.initial.ram
+    RowSoFar l.bytes l.line l.self.block l.self.end l.initial.cell l.initial.at l.initial.ram
     l.cell l.at l.ram
 
 abbrev pub decreases-loop-cell : goal.decreases-loop-cell
-decreases-loop-cell l = l.end - l.cell
+decreases-loop-cell l = l.self.end - l.cell

@@ -1,13 +1,11 @@
--- `terminal::closing::close_queue` meets its contract, by the cases of its test. Assumes nothing.
-use borrow.Author.Rules.{rules}
-use Rattle.rules.proofs.Cases.{cases}
+-- `terminal::closing::close_queue` meets its contract. Assumes nothing.
 use Rattle.terminal.specs.Closing.{closed_queue}
 use Rattle.terminal.proofs.closing.close_queue.Goals as goal
 
-pub returns-then-joins : goal.returns-then-joins
+pub returns-then-asked-message : goal.returns-then-asked-message
 unfolding closed_queue
-returns-then-joins c = search (rules, cases)
+returns-then-asked-message c = rw c.if-asked-message.true c.join.ensures
 
-pub returns : goal.returns
+pub returns-else-asked-message : goal.returns-else-asked-message
 unfolding closed_queue
-returns c = search (rules, cases)
+returns-else-asked-message c = rw c.if-asked-message.false

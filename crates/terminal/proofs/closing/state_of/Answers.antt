@@ -1,8 +1,7 @@
--- `terminal::closing::state_of` meets its contract: each bit is what a call ensures. Assumes
--- nothing.
-use borrow.Author.Rules.{rules}
-use Rattle.terminal.proofs.ClosingLaws.{state_is}
+-- `terminal::closing::state_of` meets its contract. Assumes nothing.
+use Rattle.terminal.specs.Closing.{state_of}
 use Rattle.terminal.proofs.closing.state_of.Goals as goal
 
 pub returns : goal.returns
-returns c = search (rules, state_is)
+unfolding state_of
+returns c = cc

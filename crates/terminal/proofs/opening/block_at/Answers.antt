@@ -1,10 +1,8 @@
--- `terminal::opening::block_at` meets its contract, by the cases of its test. Assumes nothing.
-use borrow.Author.Rules.{rules}
-use Rattle.rules.proofs.Cases.{cases}
+-- `terminal::opening::block_at` meets its contract. Assumes nothing.
 use Rattle.terminal.proofs.opening.block_at.Goals as goal
 
-pub returns-then-has : goal.returns-then-has
-returns-then-has c = search (rules, cases)
+pub returns-then-asked : goal.returns-then-asked
+returns-then-asked c = rw (c.if-asked.true, c.block_of.ensures)
 
-pub returns-else-has : goal.returns-else-has
-returns-else-has c = search (rules, cases)
+pub returns-else-asked : goal.returns-else-asked
+returns-else-asked c = rw c.if-asked.false

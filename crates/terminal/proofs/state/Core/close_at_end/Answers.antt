@@ -1,8 +1,8 @@
--- `terminal::Core::close_at_end` meets its contract: words, state word, memory, queue and core
--- are what the calls ensure. Assumes nothing.
-use borrow.Author.Rules.{rules}
-use Rattle.terminal.proofs.ClosingLaws.{end_is}
+-- `terminal::state::Core::close_at_end` meets its contract. Assumes nothing.
+use Rattle.terminal.specs.Closing.{closing, ended}
+use Rattle.terminal.specs.State.{with_message}
 use Rattle.terminal.proofs.state.Core.close_at_end.Goals as goal
 
 pub returns : goal.returns
-returns c = search (rules, end_is) depth 9
+unfolding closing ended with_message
+returns c = cc

@@ -1,8 +1,8 @@
--- `terminal::Core::close_by_fault` meets its contract: words, state word, memory, queue and core
--- are what the calls ensure. Assumes nothing.
-use borrow.Author.Rules.{rules}
-use Rattle.terminal.proofs.ClosingLaws.{fault_is}
+-- `terminal::state::Core::close_by_fault` meets its contract. Assumes nothing.
+use Rattle.terminal.specs.Closing.{closing, faulted}
+use Rattle.terminal.specs.State.{with_message, with_status}
 use Rattle.terminal.proofs.state.Core.close_by_fault.Goals as goal
 
 pub returns : goal.returns
-returns c = search (rules, fault_is) depth 9
+unfolding closing faulted with_message with_status
+returns c = cc

@@ -1,8 +1,7 @@
--- `terminal::Core::go_on` meets its contract: the message is what the call ensures. Assumes
--- nothing.
-use borrow.Author.Rules.{rules}
-use Rattle.terminal.proofs.StepLaws.{went_on}
+-- `terminal::state::Core::go_on` meets its contract. Assumes nothing.
+use Rattle.terminal.specs.State.{with_message}
 use Rattle.terminal.proofs.state.Core.go_on.Goals as goal
 
 pub returns : goal.returns
-returns c = search (rules, went_on)
+unfolding with_message
+returns c = cc

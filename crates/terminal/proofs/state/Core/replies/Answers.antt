@@ -1,8 +1,7 @@
--- `terminal::Core::replies` meets its contract: its tests are those that the calls answer. Assumes
--- nothing.
-use borrow.Author.Rules.{rules}
-use Rattle.terminal.proofs.ClosingLaws.{replies_when}
+-- `terminal::state::Core::replies` meets its contract. Assumes nothing.
+use Rattle.terminal.specs.Closing.{replies}
 use Rattle.terminal.proofs.state.Core.replies.Goals as goal
 
 pub returns : goal.returns
-returns c = search (rules, replies_when)
+unfolding replies
+returns c = cc

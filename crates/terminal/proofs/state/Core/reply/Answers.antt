@@ -1,16 +1,34 @@
--- `terminal::Core::reply` meets its contract: a law for each reply. Assumes nothing.
-use borrow.Author.Rules.{rules}
-use Rattle.terminal.proofs.ClosingLaws.{replying}
+-- `terminal::state::Core::reply` meets its contract. Assumes nothing.
+use Rattle.terminal.specs.Closing.{reply_of}
+use borrow.Author.Tests.{eq-eqb, ne_eqb}
 use Rattle.terminal.proofs.state.Core.reply.Goals as goal
 
-pub returns-then-not-given : goal.returns-then-not-given
-returns-then-not-given c = search (rules, replying) depth 9
+pub returns-then-not-replies : goal.returns-then-not-replies
+unfolding reply_of
+returns-then-not-replies c = rw (← c.replies.ensures, c.if-not-replies.true)
 
-pub returns-then-last : goal.returns-then-last
-returns-then-last c = search (rules, replying) depth 9
+pub returns-then-asked : goal.returns-then-asked
+unfolding reply_of
+returns-then-asked c = rw (← c.replies.ensures, c.if-not-replies.false, c.if-asked.true)
 
-pub returns-then-sends-eq0 : goal.returns-then-sends-eq0
-returns-then-sends-eq0 c = search (rules, replying) depth 9
+pub returns-then-unless_busy-eq0 : goal.returns-then-unless_busy-eq0
+unfolding reply_of
+returns-then-unless_busy-eq0 c =
+    rw (
+      ← c.replies.ensures,
+      c.if-not-replies.false,
+      c.if-asked.false,
+      ← c.unless_busy.ensures,
+      eq-eqb c.unless_busy.result 0 c.if-unless_busy-eq0.true,
+    )
 
 pub returns : goal.returns
-returns c = search (rules, replying) depth 9
+unfolding reply_of
+returns c =
+    rw (
+      ← c.replies.ensures,
+      c.if-not-replies.false,
+      c.if-asked.false,
+      ← c.unless_busy.ensures,
+      ne_eqb c.unless_busy.result 0 c.if-unless_busy-eq0.false,
+    )

@@ -1,0 +1,68 @@
+-- What the code of a run makes of what stands at a place of its bytes. Definitions only. Assumes
+-- nothing.
+use Rattle.std.specs.Prelude.{
+  ◌≡◌,
+  Bool,
+  List,
+  ℕ,
+  ◌-◌,
+  ◌≤◌,
+  ◌<◌,
+  length,
+  Option,
+  Some,
+  None,
+  Result,
+  Ok,
+  Err,
+}
+use Rattle.lines.specs.Written.{Put, line_written}
+use Rattle.pieces.specs.declared.runner.Took.{Took}
+use Rattle.pieces.specs.declared.window.Passed.{Passed as HeldPassed}
+use Rattle.pieces.specs.declared.stop.Stop.TheVariants.{Going}
+use Rattle.pieces.specs.Course.{Met, taken, at_end, refused, Course}
+use Rattle.pieces.specs.AsCoded.Window.{Passed, turns}
+
+-- ---- one field
+
+-- what is answered, and what is left of the run and of the buffer
+pub record FieldLeft (Run : Type 0) : Type 0 where
+  pub answer : Result (Option Took) ℕ
+  pub run : Run
+  pub out : List ℕ
+
+abbrev pub field_left : {Run : Type 0} → Result (Option Took) ℕ → Run → List ℕ → FieldLeft Run
+field_left answer run out = record { answer = answer; run = run; out = out }
+
+abbrev pub field_taken : {Run : Type 0} → ℕ → Run → Put → FieldLeft Run
+field_taken next new left =
+    field_left (Ok (Some (record { next = next; put = left.next }))) new left.bytes
+
+-- a field that is taken, with its line; else nothing changes
+unfoldable pub field_run : {Run : Type 0} → Met Run → Run → List ℕ → ℕ → FieldLeft Run
+field_run (taken next line new) old out put = field_taken next new (line_written out put line)
+field_run at_end old out put = field_left (Ok None) old out
+field_run (refused number) old out put = field_left (Err number) old out
+
+-- ---- a call
+
+-- the run, its memory and the buffer are lent
+abbrev pub passed_of : {Run : Type 0} → Run → HeldPassed → List ℕ → Passed Run
+passed_of new left out =
+    record { run = new; at = left.at; put = left.put; out = out; stop = left.stop }
+
+-- ---- some fields at once
+
+-- a run at a place of the window, that goes on
+abbrev pub going_at : {Run : Type 0} → Run → ℕ → ℕ → List ℕ → Passed Run
+going_at old at put out = record { run = old; at = at; put = put; out = out; stop = Going }
+
+-- some turns are taken at once: those that are left lead where all of them led, and one is left at
+-- least
+pub record TurnsTaken {Run : Type 0} (course : Course Run) (window : List ℕ) (room most : ℕ)
+    (old : Run) (at : ℕ) (left : ℕ) (new : Run) (next : ℕ) : Type 0 where
+  pub fewer : left ≤ most
+  pub some_left : 0 < most → 0 < left
+  pub leads : (last : Bool) (put : ℕ) (out : List ℕ) → room ≡ length out - put
+      → turns course left window last (going_at new next put out)
+      ≡ turns course most window last (going_at old at put out)

@@ -1,0 +1,13 @@
+-- `stream::window::Window::read` meets its contract: the part that was lent comes back in its
+-- place. Assumes nothing.
+use Rattle.std.proofs.Common.{rules, arith, ◌≤◌, length}
+use Rattle.stream.proofs.WindowLaws.{read_on}
+use Rattle.stream.proofs.window.Window.read.Goals as goal
+
+pub returns : goal.returns
+returns g c =
+    let inside : c.self.inside.have ≤ length c.self.inside.bytes =
+    omega (arith, c.self.told, c.self.invariant) in
+    read_on c.self.inside.bytes c.read.new.buf c.self.inside.have _ c.in_ok-count.count
+    c.self.inside.ended _ _ _ c.self.view_is inside c.self.told c.in_ok-count.ensures.bound.0
+    (search rules) c.in_ok-count.ensures.bytes

@@ -1,7 +1,0 @@
--- `tray::row::after_row` meets its contract. Assumes nothing.
-use Rattle.std.proofs.Common.{rules}
-use Rattle.tray.proofs.RowTurns.{row_after}
-use Rattle.tray.proofs.row.after_row.Goals as goal
-
-pub returns : goal.returns
-returns c = search (rules, row_after) depth 9
