@@ -1,17 +1,16 @@
 -- What `take_row` leaves: the turns that are left lead where all of them led (`row_taken_lem`), by
 -- the law of every row: a data word that is wanted is a field that prints nothing, and the
 -- controller stores a row as so many words. Assumes nothing.
+use Rattle.std.proofs.Common.{Option, Some}
 use Rattle.std.proofs.Common.{◌≡◌, ℕ, ◌+◌, ◌-◌, ◌*◌, ◌≤◌, Bool, true, false, eqb, ◌≢◌, List, length, sym, refl, ap, ◌∙◌, arith, ne_eqb}
-use Rattle.std.specs.Prelude.{Option, Some}
 use Rattle.bus.specs.declared.word.Word.{Word}
 use Rattle.bus.specs.DataWords.{values_of}
 use Rattle.card.specs.declared.place.Block.{Block}
 use Rattle.card.specs.Memory.{with_cells}
 use Rattle.recording.specs.declared.field.Field.TheVariants.{Word as WordField}
 use Rattle.recording.specs.declared.seen.Seen.{Seen}
-use Rattle.recording.specs.declared.words.Found.TheVariants.{Value}
 use Rattle.recording.specs.Bytes.{bytes_left, time_at}
-use Rattle.recording.specs.AsCoded.Found.{word_found}
+use Rattle.recording.specs.AsCoded.Found.{word_found, found as found_word}
 use Rattle.recording.specs.Value.{valued_at}
 use Rattle.recording.proofs.FoundLaws.{found_is_read, found_whole, found_tag}
 use Rattle.controller.specs.declared.row.Wanted.{Wanted}
@@ -40,8 +39,7 @@ use Rattle.rows.proofs.TakenLaws as rows
 use Rattle.rows.proofs.RowTurns.{nothing_taken, row_is_turns}
 use Rattle.desk.specs.declared.run.Run.{Run as HeldRun}
 use Rattle.desk.specs.declared.field.Field.TheVariants.{Shared}
-use Rattle.desk.specs.declared.reading.Reading.TheVariants.{Taken as TakenField}
-use Rattle.desk.specs.Reading.{read_at}
+use Rattle.desk.specs.Reading.{Taken as TakenField, read_at}
 use Rattle.desk.specs.Deed.{shared_deed, deed_of}
 use Rattle.desk.specs.Run.{Run, taking, took_by, met_by, desk_course}
 use Rattle.desk.specs.AsCoded.Held.{run_of}
@@ -55,7 +53,7 @@ run_over seen old fields offset =
 
 -- a word that is found is read: its tag is one of document 01's
 word_is_read : (window : List ℕ) (line : Bool) (at value next : ℕ) (seen : Seen)
-    → seen.setup ≡ true → word_found window at (marks_on line) ≡ Value value next
+    → seen.setup ≡ true → word_found window at (marks_on line) ≡ Some (found_word value next)
     → read_at window at seen
     ≡ TakenField (Shared (WordField (marks_on line) value (time_at window (at + 6)))) next
 unfolding read_at
@@ -91,9 +89,8 @@ desk_hears seen after_setup =
 
 -- ---- a row is as many turns
 
-module _ (old : HeldRun) (window ram ram' : List ℕ) (at room most : ℕ)
-    (wanted : Option Wanted) (words : Wanted) (taken : Taken)
-    (is_wanted : wanted ≡ words_wanted old.controller)
+module _ (old : HeldRun) (window ram ram' : List ℕ) (at room most : ℕ) (wanted : Option Wanted)
+    (words : Wanted) (taken : Taken) (is_wanted : wanted ≡ words_wanted old.controller)
     (is : wanted ≡ Some words)
     (is_taken_lem : row_left taken ram'
     ≡ row_taken window at words.line old.seen.setup room most
@@ -112,13 +109,15 @@ module _ (old : HeldRun) (window ram ram' : List ℕ) (at room most : ℕ)
       → TurnsTaken desk_course window room most (run_of old ram) at most (run_of old ram') at
   none_taken none =
       let same : ram' ≡ ram =
-      rows.none_taken window words.line old.seen.setup room most at row ram taken ram' is_taken_lem none in
+      rows.none_taken window words.line old.seen.setup room most at row ram taken ram'
+      is_taken_lem none in
       rw same nothing_taken
 
   module _ (some : taken.words ≢ 0) where
     tells : rows.SomeTaken window words.line old.seen.setup room most at row ram taken ram'
     tells =
-        rows.some_taken window words.line old.seen.setup room most at row ram taken ram' is_taken_lem some
+        rows.some_taken window words.line old.seen.setup room most at row ram taken ram'
+        is_taken_lem some
 
     as_many : taken.words ≡ length found
     as_many = ap (λ (any : RowLeft). any.taken.words) tells.is_row
@@ -138,7 +137,8 @@ module _ (old : HeldRun) (window ram ram' : List ℕ) (at room most : ℕ)
         ∙ ap (λ (any : Block). desk (with_taken (words.taken + length found) old.controller)
         (with_cells ram any words.cell (values_of found))) told.same_block
         ∙ wanted_row_is_words old.controller words told ram found
-        (found_are_data window words.line (words.end - words.cell) at) (found_few window words.line row at)
+        (found_are_data window words.line (words.end - words.cell) at)
+        (found_few window words.line row at)
 
     pub row_taken_lem : (new : HeldRun)
         → new
@@ -152,6 +152,6 @@ module _ (old : HeldRun) (window ram ram' : List ℕ) (at room most : ℕ)
         taken.at
     row_taken_lem new is_new =
         rw is_new
-        (row_is_turns (desk_hears old.seen tells.able.after_setup) window words.line row old.seen.setup
-        room most at ram ram' taken is_taken_lem some (desk old.controller ram) _ old.fields
-        old.offset (told_wants old.controller words told ram) as_row)
+        (row_is_turns (desk_hears old.seen tells.able.after_setup) window words.line row
+        old.seen.setup room most at ram ram' taken is_taken_lem some (desk old.controller ram) _
+        old.fields old.offset (told_wants old.controller words told ram) as_row)

@@ -1,10 +1,10 @@
 -- One field of a window, as the code takes it. Assumes nothing.
 use Rattle.std.proofs.Common.{
   ◌≡◌,
+  ◌≢◌,
   ℕ,
   ◌+◌,
   ◌-◌,
-  ◌≢◌,
   eqb,
   List,
   Option,
@@ -34,16 +34,16 @@ use Rattle.pieces.specs.AsCoded.Runner.{FieldLeft, field_left, field_run}
 use Rattle.controller.specs.declared.state.Controller.{Controller}
 use Rattle.controller.specs.Control.{code_in}
 use Rattle.controller.specs.State.{Desk, desk}
-use Rattle.controller.specs.Start.{Started, may_start, starting, starting_by, start_step}
+use Rattle.controller.specs.Start.{Started, may_start, starting_by, start_step}
 use Rattle.desk.specs.declared.field.Field.{Field}
 use Rattle.desk.specs.declared.field.Field.TheVariants.{Setup, Start, Shared}
-use Rattle.desk.specs.declared.reading.Taken.{Taken as FieldTaken}
-use Rattle.desk.specs.declared.deed.Answer.{Answer}
 use Rattle.desk.specs.declared.run.Run.{Run as HeldRun}
-use Rattle.desk.specs.Reading.{read_at, seen_after}
+use Rattle.desk.specs.declared.deed.Answer.{Answer}
+use Rattle.desk.specs.declared.reading.Taken.{Taken}
+use Rattle.desk.specs.Reading.{read_at, reading, seen_after}
 use Rattle.desk.specs.Deed.{Done, done, shared_deed, deed_of, answer_line}
 use Rattle.desk.specs.Run.{Run, taking, took_by, met_by, desk_course}
-use Rattle.desk.specs.AsCoded.Held.{run_of}
+use Rattle.desk.specs.AsCoded.Held.{run_of, answer_in}
 
 -- ---- what is refused changes nothing
 
@@ -104,22 +104,19 @@ refused_by_14 bytes (Shared field) old =
 -- ---- what stands at a place, as the code takes it
 
 module _ (old : HeldRun) (ram window out : List ℕ) (at into : ℕ)
-    (found : Result (Option FieldTaken) Refusal)
-    (is_reading : reading found ≡ read_at window at old.seen) where
+    (answer : Result (Option Taken) Refusal)
+    (is_reading : reading answer ≡ read_at window at old.seen) where
   abbrev met : FieldLeft Run
   met = field_run (desk_course.meets (run_of old ram) window at) (run_of old ram) out into
 
-  module _ (perhaps : Option FieldTaken) (told : FieldTaken) (is : found ≡ Ok perhaps)
-      (is_some : perhaps ≡ Some told) (outcome : Result Answer Refusal) (left : Controller)
-      (ram' : List ℕ)
+  module _ (told : Taken) (is : answer ≡ Ok (Some told)) (outcome : Result Answer Refusal)
+      (left : Controller) (ram' : List ℕ)
       (is_left : done (refused outcome) (answer_in outcome) (desk left ram')
       ≡ deed_of window told.field (desk old.controller ram)) where
-    abbrev deed : Done
-    deed = deed_of window told.field (desk old.controller ram)
-
-    pub field_taken : (answer : Answer) (out' : List ℕ) (into' : ℕ) (new : HeldRun)
-        → outcome ≡ Ok answer
-        → put into' out' ≡ line_written out into (answer_line ram' answer)
+    -- a field is taken
+    pub field_taken : (deed : Answer) (out' : List ℕ) (into' : ℕ) (new : HeldRun)
+        → outcome ≡ Ok deed
+        → put into' out' ≡ line_written out into (answer_line ram' deed)
         → new
         ≡ record {
           controller = left;
@@ -130,48 +127,50 @@ module _ (old : HeldRun) (ram window out : List ℕ) (at into : ℕ)
         → field_left (Ok (Some (record { next = told.next; put = into' }))) (run_of new ram') out'
         ≡ met
     unfolding field_run desk_course met_by took_by taking
-    field_taken answer out' into' new taken is_put is_new =
-        rw (
-          ← is_reading,
-          is,
-          is_some,
-          ← is_left,
-          taken,
-          ← is_put,
-          is_new,
-        )
+    field_taken deed out' into' new done_so is_put is_new =
+        rw (← is_reading, is, ← is_left, done_so, ← is_put, is_new)
 
-    pub field_refused : (refusal : Refusal) (number : ℕ) → outcome ≡ Err refusal
-        → number ≡ number_of refusal
-        → field_left (Err number) (run_of (record old { controller = left }) ram') out ≡ met
+    -- what it does is refused
+    pub deed_refused : (refusal : Refusal) → outcome ≡ Err refusal
+        → field_left (Err refusal) (run_of (record {
+          controller = left;
+          seen = old.seen;
+          fields = old.fields;
+          offset = old.offset;
+        }) ram') out
+        ≡ met
     unfolding field_run desk_course met_by took_by
-    field_refused refusal number is_refused is_number =
-        let told_so : number ≡ deed.refusal =
-        is_number ∙ sym (ap (λ (any : Result Answer Refusal). refused any) is_refused)
+    deed_refused refusal refused_so =
+        let number : number_of refusal ≡ (deed_of window told.field (desk old.controller ram)).refusal =
+        sym (ap (λ (any : Result Answer Refusal). refused any) refused_so)
         ∙ ap (λ (any : Done). any.refusal) is_left in
-        let other : number ≢ 0 = λ none.
-        some_refused (Some refusal) refl (sym is_number ∙ none) in
-        let kept : desk left ram' ≡ desk old.controller ram =
-        ap (λ (any : Done). any.desk) is_left
-        ∙ refused_changes_nothing window told.field (desk old.controller ram)
-        (λ none. other (told_so ∙ none)) in
+        let other : number_of refusal ≢ 0 = some_refused (Some refusal) refl in
+        let kept : (deed_of window told.field (desk old.controller ram)).desk
+        ≡ desk old.controller ram =
+        refused_changes_nothing window told.field (desk old.controller ram)
+        (λ none. other (number ∙ none)) in
+        let same : desk left ram' ≡ desk old.controller ram =
+        ap (λ (any : Done). any.desk) is_left ∙ kept in
         rw (
-          kept,
           ← is_reading,
           is,
-          is_some,
-          ← told_so,
-          ne_eqb number 0 other,
+          ← number,
+          ne_eqb (number_of refusal) 0 other,
         )
+        (ap (λ (any : Desk). field_left (Err refusal) (record {
+          seen = old.seen;
+          desk = any;
+          fields = old.fields;
+          offset = old.offset;
+        }) out) same)
 
-  pub end_met : (perhaps : Option FieldTaken) → found ≡ Ok perhaps → perhaps ≡ None
-      → field_left (Ok None) (run_of old ram) out ≡ met
+  -- nothing is left
+  pub end_met : answer ≡ Ok None → field_left (Ok None) (run_of old ram) out ≡ met
   unfolding field_run desk_course met_by
-  end_met perhaps is none = rw (← is_reading, is, none)
+  end_met is = rw (← is_reading, is)
 
-  pub refusal_met : (refusal : Refusal) (number : ℕ) → found ≡ Err refusal
-      → number ≡ number_of refusal → field_left (Err number) (run_of old ram) out ≡ met
+  -- what stands there is refused
+  pub refusal_met : (refusal : Refusal) → answer ≡ Err refusal
+      → field_left (Err refusal) (run_of old ram) out ≡ met
   unfolding field_run desk_course met_by
-  refusal_met refusal number is is_number = rw (← is_reading, is, is_number)
-
-pub ruleset meeting = (field_taken, field_refused, end_met, refusal_met)
+  refusal_met refusal is = rw (← is_reading, is)

@@ -2,6 +2,7 @@
 use crate::run::Run;
 use crate::{deed, print, reading};
 use pieces::{Runner, Took, Went};
+use refusals::Refusal;
 use rows::Row;
 
 impl Runner for Run {
@@ -32,19 +33,19 @@ impl Runner for Run {
         room: usize,
         most: u64,
     ) -> Went {
-        let Some(words) = self.controller.words_wanted() else {
+        let Some(wanted) = self.controller.words_wanted() else {
             return Went { at, left: most };
         };
         let row = Row {
-            block: words.block,
-            cell: words.cell,
-            end: words.end,
+            block: wanted.block,
+            cell: wanted.cell,
+            end: wanted.end,
         };
-        let taken = row.take(ram, window, at, words.line, self.seen.setup, room, most);
+        let taken = row.take(ram, window, at, wanted.line, self.seen.setup, room, most);
         if taken.words == 0 {
             return Went { at, left: most };
         }
-        self.controller.set_taken(words.taken + taken.words);
+        self.controller.set_taken(wanted.taken + taken.words);
         self.pass(u64::from(taken.words), 10 * u64::from(taken.words));
         Went {
             at: taken.at,
@@ -59,7 +60,7 @@ impl Runner for Run {
         at: usize,
         out: &mut [u8],
         put: usize,
-    ) -> Result<Option<Took>, u8> {
+    ) -> Result<Option<Took>, Refusal> {
         let Some(taken) = reading::read_field(window, at, self.seen)? else {
             return Ok(None);
         };

@@ -5,15 +5,16 @@ use mathlib.Core.List.{List}
 use Prim.Native.Nat.{ℕ, ◌^◌, ◌≤◌, ◌<◌}
 use native.Mathlib.Omega.{arith}
 use lib.Dec.{eqb, ltb}
-use lib.ListN.{length, replicate}
+use lib.ListN.{length}
 use borrow.Author.Tests.{ltb-false}
 use Rattle.card.specs.Memory.{card_words}
 use Rattle.pieces.specs.AsCoded.Window.{most_turns}
 use Rattle.tray.specs.declared.run.Tray.{Tray as HeldTray}
-use Rattle.tray.specs.declared.window.Passed.{Passed as HeldPassed}
+use Rattle.pieces.specs.declared.window.Passed.{Passed as HeldPassed}
+use Rattle.pieces.specs.AsCoded.Runner.{passed_of}
 use Rattle.tray.specs.Run.{Tray, tray_over}
 use Rattle.tray.specs.AsCoded.Window.{Passed, window_run, whole_room}
-use Rattle.tray.specs.AsCoded.Held.{tray_of, held_at_start, passed_of}
+use Rattle.tray.specs.AsCoded.Held.{tray_of, held_at_start}
 use Rattle.tray_laws.proofs.RoomLaws.{whole_tray, whole_count, whole_bytes}
 use Rattle.listrabor.specs.Lent.{size_refusal, lent, lent_run}
 use Rattle.listrabor.proofs.TextLaws.{used, refused_answers_0}
@@ -42,20 +43,17 @@ module _ (recording ram out : List ℕ) (number : ℕ)
         go true false is taken = ltb-false (length out) (whole_room (length recording)) is
         go false short is taken = absurd (omega (arith, taken))
 
-    pub recording_done : (run : HeldTray) (left : HeldPassed) (places ram' out' : List ℕ)
+    pub recording_done : (run new : HeldTray) (left : HeldPassed) (ram' out' : List ℕ)
         → length out < 2 ^ 64 → run ≡ held_at_start
-        → passed_of left places ram' out'
-        ≡ window_run (tray_of run (replicate 256 0) ram) recording true out
+        → passed_of (tray_of new ram') left out' ≡ window_run (tray_of run ram) recording true out
         → lent left.put ram' out' ≡ lent_run recording ram out
     unfolding tray_over held_at_start
-    recording_done run left places ram' out' long at_start is =
+    recording_done run new left ram' out' long at_start is =
         let old : Tray = tray_over ram in
         let few : length recording < most_turns = omega (arith, long, enough) in
-        let done : passed_of left places ram' out' ≡ window_run old recording true out =
+        let done : passed_of (tray_of new ram') left out' ≡ window_run old recording true out =
         is
-        ∙ ap
-        (λ (first : HeldTray). window_run (tray_of first (replicate 256 0) ram) recording true out)
-        at_start in
+        ∙ ap (λ (first : HeldTray). window_run (tray_of first ram) recording true out) at_start in
         ap (λ (call : Passed). lent call.put call.run.card.ram call.out) done
         ∙ rw (
           whole_count recording out enough old few,

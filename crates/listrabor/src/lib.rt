@@ -7,7 +7,6 @@ ghost use Rattle.listrabor.specs.Lent.{room_for, size_refusal, lent, lent_run};
 
 use card::place::CARD_WORDS;
 use lines::LINE_ROOM;
-use tray;
 use tray::Tray;
 
 // The bytes of text that a byte of a recording brings at the most.
@@ -52,8 +51,6 @@ pub fn listrabor_run(recording: &[u8], ram: &mut [u16], out: &mut [u8]) -> usize
     if listrabor_refusal(recording.len(), ram.len(), out.len()) != 0 {
         return 0;
     }
-    let mut places: [u16; 256] = [0; 256];
-    let tray = Tray::at_start();
-    let passed = tray::run_window(tray, &mut places, ram, recording, out, true);
-    passed.put
+    let mut tray = Tray::at_start();
+    pieces::run_window(&mut tray, ram, recording, out, true).put
 }

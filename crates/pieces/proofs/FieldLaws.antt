@@ -5,6 +5,8 @@ use mathlib.Core.List.{List}
 use Prim.Native.Nat.{ℕ, ◌-◌, ◌≤◌, ◌<◌}
 use lib.ListN.{length}
 use Rattle.std.specs.Prelude.{Option, Some, None, Result, Ok, Err}
+use Rattle.refusals.specs.declared.Refusal.{Refusal}
+use Rattle.refusals.specs.Number.{number_of}
 use Rattle.rules.proofs.Clash.{clash}
 use Rattle.lines.specs.Written.{Put, put, line_room, line_written}
 use Rattle.pieces.specs.declared.runner.Took.{Took}
@@ -42,7 +44,7 @@ module _ {Run : Type 0} (course : Course Run) (window : List ℕ) (last : Bool) 
       ≡ turn course window last (going_at old at into out)
   turn_full = general.turn_full course window last (going_at old at into out)
 
-  module _ (enough : line_room ≤ length out - into) (answer : Result (Option Took) ℕ) (new : Run)
+  module _ (enough : line_room ≤ length out - into) (answer : Result (Option Took) Refusal) (new : Run)
       (out' : List ℕ)
       (is : field_left answer new out' ≡ field_run (course.meets old window at) old out into) where
     by_met : (made : Passed Run)
@@ -100,14 +102,14 @@ module _ {Run : Type 0} (course : Course Run) (window : List ℕ) (last : Bool) 
         go at_end same = stops 0 is_none (same_run same) (same_out same)
         go (refused any) same = absurd (clash (cc (same_answer same)))
 
-      pub turn_refuses : answer ≡ Err number
+      pub turn_refuses : (refusal : Refusal) → number ≡ number_of refusal → answer ≡ Err refusal
           → left ≡ turn course window last (going_at old at into out)
       unfolding field_run passing
-      turn_refuses is_refused = by_met left go where
+      turn_refuses refusal is_number is_refused = by_met left go where
         go : (met : Met Run) → field_left answer new out' ≡ field_run met old out into
             → left ≡ passing course met last (going_at old at into out)
         go (taken next line made) same = absurd (clash (cc (same_answer same)))
         go at_end same = absurd (clash (cc (same_answer same)))
         go (refused any) same =
-            let is_number : number ≡ any = cc (same_answer same) in
-            stops any is_number (same_run same) (same_out same)
+            let told : number_of refusal ≡ any = cc (same_answer same) in
+            stops any (is_number ∙ told) (same_run same) (same_out same)

@@ -4,6 +4,8 @@ ghost use Rattle.std.specs.Prelude.{◌≡◌, List, ℕ};
 ghost use Rattle.pieces.specs.Course.{Course};
 ghost use Rattle.pieces.specs.AsCoded.Runner.{field_left, field_run, TurnsTaken};
 
+use refusals::Refusal;
+
 // A field that was taken: where the next one begins, and the place behind its line.
 #[derive(Clone, Copy)]
 pub struct Took {
@@ -47,8 +49,8 @@ pub trait Runner {
         ensures { TurnsTaken course window.now room most (run_of self.old ram.old) at
             result.left (run_of self.new ram.new) result.at };
 
-    // Takes the field at a place, and prints its line. `None` is the end of the bytes, an error the
-    // number of a refusal: neither changes anything.
+    // Takes the field at a place, and prints its line. `None` is the end of the bytes. That and a
+    // refusal change nothing.
     fn take_field(
         &mut self,
         ram: &mut [u16],
@@ -56,7 +58,7 @@ pub trait Runner {
         at: usize,
         out: &mut [u8],
         put: usize,
-    ) -> Result<Option<Took>, u8>
+    ) -> Result<Option<Took>, Refusal>
         ensures { field_left result (run_of self.new ram.new) out.new
             ≡ field_run (course.meets (run_of self.old ram.old) window.now at)
             (run_of self.old ram.old) out.old put };

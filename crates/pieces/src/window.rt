@@ -46,7 +46,7 @@ fn turn<R: Runner>(
             };
         }
         Ok(None) => 0,
-        Err(number) => number,
+        Err(refusal) => u8::from(refusal),
     };
     let end = stop_at(out, put, number, last, run.fields(), run.offset());
     Passed {

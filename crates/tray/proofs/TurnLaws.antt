@@ -102,10 +102,9 @@ module _ (old : HeldTray) (ram window : List ℕ) (at : ℕ) (out : List ℕ) (i
   unfolding field_run tray_course met_by
   end_met found is none = rw (← is_reading, is, none)
 
-  pub refusal_met : (refused : FieldRefused) (number : ℕ) → answer ≡ Err refused
-      → number ≡ number_of refused.refusal
-      → field_left (Err number) (tray_of old ram) out ≡ met
+  pub refusal_met : (refused : FieldRefused) → answer ≡ Err refused
+      → field_left (Err refused.refusal) (tray_of old ram) out ≡ met
   unfolding field_run tray_course met_by
-  refusal_met refused number is is_number = rw (← is_reading, is, is_number)
+  refusal_met refused is = rw (← is_reading, is)
 
 pub ruleset meeting = (end_met, refusal_met)

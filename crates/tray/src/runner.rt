@@ -3,6 +3,7 @@ use crate::run::Tray;
 use crate::{field, print};
 use pieces::{Runner, Took, Went};
 use recording;
+use refusals::Refusal;
 use rows::Row;
 
 impl Runner for Tray {
@@ -46,7 +47,7 @@ impl Runner for Tray {
             return Went { at, left: most };
         }
         self.core.after_row(message, taken.cell);
-        self.pass(taken.words as u64, 10 * taken.words as u64);
+        self.pass(u64::from(taken.words), 10 * u64::from(taken.words));
         Went {
             at: taken.at,
             left: taken.left,
@@ -60,7 +61,7 @@ impl Runner for Tray {
         at: usize,
         out: &mut [u8],
         put: usize,
-    ) -> Result<Option<Took>, u8> {
+    ) -> Result<Option<Took>, Refusal> {
         match recording::read_field(window, at, self.seen) {
             Ok(Some(taken)) => {
                 let field = taken.field;
@@ -73,7 +74,7 @@ impl Runner for Tray {
                 }))
             }
             Ok(None) => Ok(None),
-            Err(refused) => Err(u8::from(refused.refusal)),
+            Err(refused) => Err(refused.refusal),
         }
     }
 }

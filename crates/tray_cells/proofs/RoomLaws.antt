@@ -20,7 +20,7 @@ use Rattle.message.specs.declared.state.Stage.TheVariants.{
 }
 use Rattle.message.specs.declared.state.OpenMessage.{OpenMessage}
 use Rattle.terminal.specs.declared.state.Core.{Core}
-use Rattle.terminal.specs.declared.state.Held.{Held}
+use Rattle.queue.specs.declared.Queue.{Queue}
 use Rattle.lines.specs.Lines.{blank, newline}
 use Rattle.lines.specs.declared.Page.{Page}
 use Rattle.tray.specs.declared.run.Tray.{Tray as HeldTray}
@@ -132,12 +132,12 @@ of_waiting places ring = go (eqb ring.count 0) where
   go true = record { bound = omega arith }
   go false = weaker some (omega arith)
 
-of_queue : (places : List ℕ) (ring : Ring)
-    → AtMost (30 + (21 * ring.count + 13)) (queue_text places ring)
+of_queue : (queue : Queue)
+    → AtMost (30 + (21 * queue.ring.count + 13)) (queue_text queue)
 unfolding queue_text
-of_queue places ring =
-    both (named (bytes "overflow ") newline (of_mark ring.overflow))
-    (of_waiting places ring)
+of_queue queue =
+    both (named (bytes "overflow ") newline (of_mark queue.ring.overflow))
+    (of_waiting queue.places queue.ring)
 
 of_words : (core : Core) → AtMost 65 (words_text core)
 unfolding words_text
@@ -159,35 +159,35 @@ of_switches core =
     (named (bytes "shut B ") newline (of_mark core.shut.b)))
     (named (bytes "inhibit ") newline (of_mark core.inhibit))
 
-of_terminal : (held : Held) (places : List ℕ)
-    → AtMost (172 + (30 + (21 * held.ring.count + 13)) + 222) (terminal_text held places)
+of_terminal : (core : Core) (queue : Queue)
+    → AtMost (172 + (30 + (21 * queue.ring.count + 13)) + 222) (terminal_text core queue)
 unfolding terminal_text core_text
-of_terminal held places =
+of_terminal core queue =
     both (both
-    (both (both (of_words held.core) (of_remembered held.core)) (of_switches held.core))
-    (of_queue places held.ring)) (of_message held.core.message)
+    (both (both (of_words core) (of_remembered core)) (of_switches core))
+    (of_queue queue)) (of_message core.message)
 
-of_state : (run : HeldTray) (places : List ℕ)
-    → AtMost (437 + 21 * run.held.ring.count) (state_text run places)
+of_state : (run : HeldTray)
+    → AtMost (437 + 21 * run.queue.ring.count) (state_text run)
 unfolding state_text
-of_state run places = go run.seen.setup where
-  go : (setup : Bool) → AtMost (437 + 21 * run.held.ring.count)
-      (cond setup (terminal_text run.held places) (bytes "terminal none\n"))
-  go true = weaker (of_terminal run.held places) (omega arith)
+of_state run = go run.seen.setup where
+  go : (setup : Bool) → AtMost (437 + 21 * run.queue.ring.count)
+      (cond setup (terminal_text run.core run.queue) (bytes "terminal none\n"))
+  go true = weaker (of_terminal run.core run.queue) (omega arith)
   go false = record { bound = omega arith }
 
 -- ---- the program's buffer
 
 -- the state, then the cells, are all of what the program prints behind a run's lines; no more than
 -- 256 blocks wait, since a run leaves a fit terminal
-pub nothing_is_cut : (run : HeldTray) (places ram : List ℕ) (empty stated full : Page)
-    → run.held.ring.count ≤ queue_places → length ram ≡ 16384
+pub nothing_is_cut : (run : HeldTray) (ram : List ℕ) (empty stated full : Page)
+    → run.queue.ring.count ≤ queue_places → length ram ≡ 16384
     → empty.at ≡ 0 → length empty.out.now ≡ 172032
-    → Fits empty (state_text run places) stated → Fits stated (cell_lines 0 ram) full
-    → take full.at full.out.now ≡ state_text run places ++ cell_lines 0 ram
-nothing_is_cut run places ram empty stated full few cells start room state rest =
+    → Fits empty (state_text run) stated → Fits stated (cell_lines 0 ram) full
+    → take full.at full.out.now ≡ state_text run ++ cell_lines 0 ram
+nothing_is_cut run ram empty stated full few cells start room state rest =
     put_whole empty (state_text run places ++ cell_lines 0 ram) full (fits_then state rest) start
     (omega (
       arith,
-      (both (of_state run places) (of_cells 0 ram)).bound,
+      (both (of_state run) (of_cells 0 ram)).bound,
     ))

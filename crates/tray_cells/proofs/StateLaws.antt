@@ -93,17 +93,17 @@ module _ {old new : Page} where
   unfolding waiting_text
   waiting_none places ring none fits = rw none fits
 
-  pub state_none : (run : HeldTray) (places : List ℕ) → run.seen.setup ≡ false
+  pub state_none : (run : HeldTray) → run.seen.setup ≡ false
       → Fits old (bytes "terminal none\n") new
-      → Fits old (state_text run places) new
+      → Fits old (state_text run) new
   unfolding state_text
-  state_none run places is fits = rw is fits
+  state_none run is fits = rw is fits
 
-  pub state_some : (run : HeldTray) (places : List ℕ) → run.seen.setup ≡ true
-      → Fits old (terminal_text run.held places) new
-      → Fits old (state_text run places) new
+  pub state_some : (run : HeldTray) → run.seen.setup ≡ true
+      → Fits old (terminal_text run.core run.queue) new
+      → Fits old (state_text run) new
   unfolding state_text
-  state_some run places is fits = rw is fits
+  state_some run is fits = rw is fits
 
   pub message_open : (message : Option OpenMessage) (held : OpenMessage) → message ≡ Some held
       → Fits old (opening_text held ++ fixed_text held ++ progress_text held) new

@@ -30,7 +30,7 @@ use Rattle.message.specs.declared.state.Stage.TheVariants.{
 }
 use Rattle.message.specs.declared.state.OpenMessage.{OpenMessage}
 use Rattle.terminal.specs.declared.state.Core.{Core}
-use Rattle.terminal.specs.declared.state.Held.{Held}
+use Rattle.queue.specs.declared.Queue.{Queue}
 use Rattle.lines.specs.Digits.{hex_byte, hex_word, decimal}
 use Rattle.lines.specs.Lines.{blank, newline}
 use Rattle.tray.specs.declared.run.Tray.{Tray as HeldTray}
@@ -108,8 +108,9 @@ waiting_text places ring =
     (item (bytes "waiting") (each_block (blocks_from places ring.start ring.count)) newline)
 
 -- overflow, and the blocks that wait
-unfoldable pub queue_text : List ℕ → Ring → List ℕ
-queue_text places ring = line "overflow " (mark_text ring.overflow) ++ waiting_text places ring
+unfoldable pub queue_text : Queue → List ℕ
+queue_text queue =
+    line "overflow " (mark_text queue.ring.overflow) ++ waiting_text queue.places queue.ring
 
 -- ---- the terminal
 
@@ -137,13 +138,10 @@ unfoldable pub core_text : Core → List ℕ
 core_text core = words_text core ++ remembered_text core ++ switches_text core
 
 -- every item
-unfoldable pub terminal_text : Held → List ℕ → List ℕ
-terminal_text held places =
-    core_text held.core
-    ++ queue_text places held.ring
-    ++ message_text held.core.message
+unfoldable pub terminal_text : Core → Queue → List ℕ
+terminal_text core queue = core_text core ++ queue_text queue ++ message_text core.message
 
 -- before a setup was taken there is no terminal
-unfoldable pub state_text : HeldTray → List ℕ → List ℕ
-state_text run places =
-    cond run.seen.setup (terminal_text run.held places) (bytes "terminal none\n")
+unfoldable pub state_text : HeldTray → List ℕ
+state_text run =
+    cond run.seen.setup (terminal_text run.core run.queue) (bytes "terminal none\n")

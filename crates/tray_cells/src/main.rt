@@ -13,13 +13,13 @@ use tray_stream;
 
 // State and cells, in one write. There is room for both (`nothing_is_cut`): with 256 blocks that
 // wait, the state takes some 1,300 bytes, and 16,384 cells take 163,840, at 10 bytes a line.
-fn print_left<O: Write>(output: &mut O, tray: Tray, places: &[u16; 256], ram: &[u16]) {
+fn print_left<O: Write>(output: &mut O, tray: &Tray, ram: &[u16]) {
     let mut space: [u8; 172032] = [0; 172032];
     let mut page = Page {
         out: &mut space,
         at: 0,
     };
-    state::put_state(&mut page, tray, places);
+    state::put_state(&mut page, tray);
     cells::put_cells(&mut page, ram);
     // whether they were taken is not asked: nothing comes behind them
     let _ = output.write_all(page.written());
@@ -28,12 +28,11 @@ fn print_left<O: Write>(output: &mut O, tray: Tray, places: &[u16; 256], ram: &[
 fn main(rt: HostRuntime) {
     let mut input = rt.stdin();
     let mut output = rt.stdout();
-    let mut places: [u16; 256] = [0; 256];
     let mut ram: [u16; 16384] = [0; 16384];
-    let done = tray_stream::run_input(&mut input, &mut output, &mut places, &mut ram);
+    let done = tray_stream::run_input(&mut input, &mut output, &mut ram);
     // of a run that broke off, by a read or a write that failed, nothing more is printed
     if !done.whole {
         return;
     }
-    print_left(&mut output, done.tray, &places, &ram);
+    print_left(&mut output, &done.tray, &ram);
 }

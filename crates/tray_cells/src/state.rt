@@ -25,10 +25,10 @@ ghost use Rattle.tray_cells.specs.State.{
 
 use lines::Page;
 use message::state::{OpenMessage, Stage};
-use queue::Ring;
+use queue::{Queue, Ring};
 use shown::item::put_item;
 use shown::text::{Hex, Shown, put_text};
-use terminal::state::{Core, Held};
+use terminal::state::Core;
 use tray::Tray;
 
 // ---- the open message
@@ -138,11 +138,11 @@ fn put_waiting(page: &mut Page, ring: Ring, places: &[u16; 256])
     put_text(page, b"\n");
 }
 
-fn put_queue(page: &mut Page, ring: Ring, places: &[u16; 256])
-    ensures { Fits page.old (queue_text places.now ring) page.new }
+fn put_queue(page: &mut Page, queue: &Queue)
+    ensures { Fits page.old (queue_text queue.now) page.new }
 {
-    put_item(page, b"overflow ", &ring.overflow, b'\n');
-    put_waiting(page, ring, places);
+    put_item(page, b"overflow ", &queue.ring.overflow, b'\n');
+    put_waiting(page, queue.ring, &queue.places);
 }
 
 // ---- the terminal
@@ -181,20 +181,20 @@ fn put_core(page: &mut Page, core: Core)
     put_switches(page, core);
 }
 
-fn put_terminal(page: &mut Page, held: Held, places: &[u16; 256])
-    ensures { Fits page.old (terminal_text held places.now) page.new }
+fn put_terminal(page: &mut Page, core: Core, queue: &Queue)
+    ensures { Fits page.old (terminal_text core queue.now) page.new }
 {
-    put_core(page, held.core);
-    put_queue(page, held.ring, places);
-    put_message(page, held.core.message);
+    put_core(page, core);
+    put_queue(page, queue);
+    put_message(page, core.message);
 }
 
 // Every item of the state. Before a setup was taken there is no terminal.
-pub fn put_state(page: &mut Page, tray: Tray, places: &[u16; 256])
-    ensures { Fits page.old (state_text tray places.now) page.new }
+pub fn put_state(page: &mut Page, tray: &Tray)
+    ensures { Fits page.old (state_text tray.now) page.new }
 {
     if tray.seen.setup {
-        return put_terminal(page, tray.held, places);
+        return put_terminal(page, tray.core, &tray.queue);
     }
     put_text(page, b"terminal none\n");
 }

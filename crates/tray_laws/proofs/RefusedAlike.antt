@@ -15,8 +15,8 @@ use Rattle.card.specs.Host.{is_write}
 use Rattle.terminal.specs.State.{Card}
 use Rattle.terminal.specs.Event.{Event}
 use Rattle.terminal_laws.specs.AtRest.{WholeAndFit}
-use Rattle.actions.specs.declared.Done.{Done}
 use Rattle.actions.specs.Actions.{
+  Done,
   After,
   with_memory,
   without_memory,

@@ -19,8 +19,8 @@ use Rattle.terminal.specs.declared.state.Reply.TheVariants.{Silent}
 use Rattle.terminal.specs.declared.state.Answer.{Answer}
 use Rattle.terminal.specs.State.{Card, card}
 use Rattle.terminal.specs.Event.{replied, shown}
-use Rattle.actions.specs.declared.Done.{Done}
 use Rattle.actions.specs.Actions.{
+  Done,
   After,
   after,
   alone,

@@ -6,7 +6,6 @@ use tray_stream;
 fn main(rt: HostRuntime) {
     let mut input = rt.stdin();
     let mut output = rt.stdout();
-    let mut places: [u16; 256] = [0; 256];
     let mut ram: [u16; 16384] = [0; 16384];
-    tray_stream::run_input(&mut input, &mut output, &mut places, &mut ram);
+    tray_stream::run_input(&mut input, &mut output, &mut ram);
 }

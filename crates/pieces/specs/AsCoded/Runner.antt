@@ -16,6 +16,8 @@ use Rattle.std.specs.Prelude.{
   Ok,
   Err,
 }
+use Rattle.refusals.specs.declared.Refusal.{Refusal}
+use Rattle.refusals.specs.Number.{number_of}
 use Rattle.lines.specs.Written.{Put, line_written}
 use Rattle.pieces.specs.declared.runner.Took.{Took}
 use Rattle.pieces.specs.declared.window.Passed.{Passed as HeldPassed}
@@ -31,18 +33,32 @@ pub record FieldLeft (Run : Type 0) : Type 0 where
   pub run : Run
   pub out : List ℕ
 
-abbrev pub field_left : {Run : Type 0} → Result (Option Took) ℕ → Run → List ℕ → FieldLeft Run
-field_left answer run out = record { answer = answer; run = run; out = out }
+-- a refusal is told by its number
+abbrev pub numbered : {A : Type 0} → Result A Refusal → Result A ℕ
+numbered (Ok outcome) = Ok outcome
+numbered (Err refusal) = Err (number_of refusal)
+
+abbrev pub field_left : {Run : Type 0} → Result (Option Took) Refusal → Run → List ℕ
+    → FieldLeft Run
+field_left answer run out = record { answer = numbered answer; run = run; out = out }
 
 abbrev pub field_taken : {Run : Type 0} → ℕ → Run → Put → FieldLeft Run
 field_taken next new left =
-    field_left (Ok (Some (record { next = next; put = left.next }))) new left.bytes
+    record {
+      answer = Ok (Some (record { next = next; put = left.next }));
+      run = new;
+      out = left.bytes;
+    }
+
+-- none is
+abbrev pub not_taken : {Run : Type 0} → Result (Option Took) ℕ → Run → List ℕ → FieldLeft Run
+not_taken answer old out = record { answer = answer; run = old; out = out }
 
 -- a field that is taken, with its line; else nothing changes
 unfoldable pub field_run : {Run : Type 0} → Met Run → Run → List ℕ → ℕ → FieldLeft Run
 field_run (taken next line new) old out put = field_taken next new (line_written out put line)
-field_run at_end old out put = field_left (Ok None) old out
-field_run (refused number) old out put = field_left (Err number) old out
+field_run at_end old out put = not_taken (Ok None) old out
+field_run (refused number) old out put = not_taken (Err number) old out
 
 -- ---- a call
 

@@ -1,6 +1,6 @@
 -- `pieces::window::turn` meets its contract: a law for each answer. Assumes nothing.
-use Rattle.std.proofs.Common.{rules, sym, ap, ◌∙◌}
-use Rattle.std.specs.Prelude.{Ok, Err}
+use Rattle.std.proofs.Common.{rules, ap, ◌∙◌}
+use Rattle.std.specs.Prelude.{Ok}
 use Rattle.pieces.proofs.FieldLaws.{turn_full, turn_takes, turn_ends, turn_refuses}
 use Rattle.pieces.proofs.window.turn.Goals.{in-Ok-None, in-Err}
 use Rattle.pieces.proofs.window.turn.Goals as goal
@@ -24,5 +24,5 @@ returns g c =
       | in-Err w ↦
           turn_refuses _ _ _ _ _ _ _ (search rules) _ _ _ c.take_field.ensures _ _ _ _ _ _
           (c.fields.ensures c.take_field.new.ram) (c.offset.ensures c.take_field.new.ram)
-          c.stop_at-end.ensures (w.in-Err.is ∙ ap (λ any. Err any) (sym w.number-is))
+          c.stop_at-end.ensures _ (w.number-is ∙ w.from-number.ensures) w.in-Err.is
     ]

@@ -7,8 +7,8 @@ use Rattle.desk.proofs.runner.RunRunner.take_row.Goals as goal
 pub returns-then-taken-eq0 : goal.returns-then-taken-eq0
 returns-then-taken-eq0 c = search (rules, none_taken) depth 9
 
-pub overflow_add-words : goal.overflow_add-words
-overflow_add-words c =
+pub overflow_add-wanted : goal.overflow_add-wanted
+overflow_add-wanted c =
     let fits =
     words_fit c.args.self.now _ _ _ _ _ _ _ _ _ c.words_wanted.ensures c.in-Some.is
     c.take-taken.ensures c.if-taken-eq0.false in
@@ -16,5 +16,5 @@ overflow_add-words c =
 
 pub returns : goal.returns
 returns c =
-    row_taken_lem _ _ _ _ _ _ _ _ _ _ c.words_wanted.ensures c.in-Some.is
-    c.take-taken.ensures c.if-taken-eq0.false c.pass.new.self (search rules)
+    row_taken_lem _ _ _ _ _ _ _ _ _ _ c.words_wanted.ensures c.in-Some.is c.take-taken.ensures
+    c.if-taken-eq0.false c.pass.new.self (search rules)
