@@ -10,7 +10,6 @@ use lib.Dec.{ltb}
 use lib.ListN.{length}
 use borrow.Author.Tests.{ltb-true}
 use Rattle.std.proofs.Common.{Option, Some, None}
-use Rattle.rules.proofs.Clash.{clash}
 use Rattle.bus.specs.declared.word.Word.{Word}
 use Rattle.bus.specs.DataWords.{DataWord, DataWords, values_of}
 use Rattle.card.specs.Memory.{the_cell, with_cell, with_cells}
@@ -89,26 +88,26 @@ module _ (state : Controller) (wanted : Wanted) where
               same_end = cc;
               same_line = cc;
             }
-        go false is same = absurd (clash (cc))
+        go false is same = cc
 
   in_stage : (order : Order) (so_far : Exchange) → state.message ≡ open_back order so_far
       → (stage : Stage) → so_far.stage ≡ stage
       → wanted_at stage state.control (format_for order) so_far.taken
       ≡ Some wanted
       → Told
-  in_stage order so_far is_open Awaiting is same = absurd (clash (cc))
+  in_stage order so_far is_open Awaiting is same = cc
   in_stage order so_far is_open Reply is same = in_reply order so_far is_open is same
-  in_stage order so_far is_open AwaitingLast is same = absurd (clash (cc))
-  in_stage order so_far is_open Ended is same = absurd (clash (cc))
+  in_stage order so_far is_open AwaitingLast is same = cc
+  in_stage order so_far is_open Ended is same = cc
 
   in_message : (message : Option OpenMessage) → state.message ≡ message
       → wanted_of message state.control ≡ Some wanted → Told
-  in_message None is same = absurd (clash (cc))
+  in_message None is same = cc
   in_message (Some message) is same = go message.progress refl (refl ∙ same) where
     go : (progress : Option Exchange) → message.progress ≡ progress
         → wanted_in progress message.order state.control ≡ Some wanted
         → Told
-    go None progressed same = absurd (clash (cc))
+    go None progressed same = cc
     go (Some so_far) progressed same =
         in_stage message.order so_far
         (is ∙ ap (λ (any : Option Exchange).

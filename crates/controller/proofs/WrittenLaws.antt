@@ -1,7 +1,7 @@
 -- The controller writes the words that come back and nothing else, `word_writes_only_back`: never a
 -- cell 63, `links_kept`, and never the words given, `given_kept`. A start and a silence write
 -- nothing. Assumes nothing.
-use mathlib.Core.Path.{◌≡◌, refl, sym, ◌∙◌, ap}
+use mathlib.Core.Path.{◌≡◌, refl}
 use mathlib.Core.Bool.{Bool, not, beq}
 use Prim.Native.Nat.{◌<◌}
 use native.Mathlib.Omega.{arith}
@@ -136,13 +136,6 @@ start_writes_nothing old =
     (λ may. code_writes_nothing (coded_by (code_in old.state.control)) old)
     (λ may_not. refl)
 
--- the open message is one
-open_message : {one other : OpenMessage} → Some one ≡ Some other → one ≡ other
-open_message {one} {other} same = ap unopened same where
-  unopened : Option OpenMessage → OpenMessage
-  unopened None = one
-  unopened (Some message) = message
-
 -- ---- the cells that a reader of the chain looks for
 
 module _ (word : Word) (old : Desk) where
@@ -177,7 +170,7 @@ module _ (word : Word) (old : Desk) where
       (word_writes_only_back word old).same_else
       (word_address (block_in old.state.control) cell)
       (λ back.
-      let same : back.message ≡ message = open_message (sym back.is_open ∙ is) in
+      let same : back.message ≡ message = cc in
       omega (
         arith,
         given,

@@ -58,9 +58,8 @@ ended code mark old =
     let control : ℕ = old.state.control in
     let on : Bool = chains code mark control in
     heard_as (came code mark)
-    (desk (record {
+    (desk (record old.state {
       control = cond on (cell_at old.ram (block_in control) (the_cell 63)) control;
-      count = old.state.count;
       due = on;
       result = came code mark;
       message = None;

@@ -37,8 +37,7 @@ order_in row broadcast old =
 -- the message is open and no longer due, and one start fewer is left
 unfoldable pub with_order : Order → Controller → Controller
 with_order order state =
-    record {
-      control = state.control;
+    record state {
       count = state.count - 1;
       due = false;
       result = None;

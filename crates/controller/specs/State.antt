@@ -42,11 +42,4 @@ open_back order so_far = Some (record { order = order; progress = Some so_far })
 
 -- the state with another message
 unfoldable pub with_message : Option OpenMessage → Controller → Controller
-with_message message state =
-    record {
-      control = state.control;
-      count = state.count;
-      due = state.due;
-      result = state.result;
-      message = message;
-    }
+with_message message state = record state { message = message }

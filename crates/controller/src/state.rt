@@ -2,6 +2,7 @@
 ghost use Rattle.std.specs.Prelude.{◌≡◌};
 ghost use Rattle.controller.specs.State.{at_setup};
 
+use card::place::BLOCK_CELLS;
 use exchange::order::Order;
 use exchange::state::Exchange;
 
@@ -9,7 +10,7 @@ use exchange::state::Exchange;
 // for the block.
 pub const DESK_BLOCKS: u16 = 256;
 
-pub const DESK_WORDS: usize = 16384;
+pub const DESK_WORDS: usize = BLOCK_CELLS * DESK_BLOCKS as usize;
 
 // What became of a message.
 #[derive(Clone, Copy)]

@@ -70,7 +70,8 @@ module _ (old : Page) (ram : List ℕ) (given : Option Given) where
       let part : List ℕ = controller.given_part ram told.block told.count in
       let line : Leaves old new (given_written old.out.now old.at part) =
       rw is_words at printed in
-      rw is (rw (few_given old.out.now old.at part (few_given_words ram told.block told.count)) at line)
+      rw is
+      (rw (few_given old.out.now old.at part (few_given_words ram told.block told.count)) at line)
 
 pub ruleset given_lines = (nothing_given, words_given_lem)
 

@@ -2,7 +2,27 @@
 -- the law of every row: a data word that is wanted is a field that prints nothing, and the
 -- controller stores a row as so many words. Assumes nothing.
 use Rattle.std.proofs.Common.{Option, Some}
-use Rattle.std.proofs.Common.{◌≡◌, ℕ, ◌+◌, ◌-◌, ◌*◌, ◌≤◌, Bool, true, false, eqb, ◌≢◌, List, length, sym, refl, ap, ◌∙◌, arith, ne_eqb}
+use Rattle.std.proofs.Common.{
+  ◌≡◌,
+  ℕ,
+  ◌+◌,
+  ◌-◌,
+  ◌*◌,
+  ◌≤◌,
+  Bool,
+  true,
+  false,
+  eqb,
+  ◌≢◌,
+  List,
+  length,
+  sym,
+  refl,
+  ap,
+  ◌∙◌,
+  arith,
+  ne_eqb,
+}
 use Rattle.bus.specs.declared.word.Word.{Word}
 use Rattle.bus.specs.DataWords.{values_of}
 use Rattle.card.specs.declared.place.Block.{Block}

@@ -141,7 +141,8 @@ module _ (old : HeldRun) (ram window out : List ℕ) (at into : ℕ)
         ≡ met
     unfolding field_run desk_course met_by took_by
     deed_refused refusal refused_so =
-        let number : number_of refusal ≡ (deed_of window told.field (desk old.controller ram)).refusal =
+        let number : number_of refusal
+        ≡ (deed_of window told.field (desk old.controller ram)).refusal =
         sym (ap (λ (any : Result Answer Refusal). refused any) refused_so)
         ∙ ap (λ (any : Done). any.refusal) is_left in
         let other : number_of refusal ≢ 0 = some_refused (Some refusal) refl in

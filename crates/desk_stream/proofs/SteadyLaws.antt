@@ -8,7 +8,6 @@ use native.Mathlib.Omega.{arith}
 use lib.Dec.{eqb}
 use lib.ListN.{length}
 use Rattle.std.proofs.Common.{Some, None}
-use Rattle.rules.proofs.Clash.{clash}
 use Rattle.recording.proofs.ValueLaws.{more_bytes_same_values}
 use Rattle.lines.specs.Written.{line_room}
 use Rattle.lines.proofs.Lengths.{length_given_line, length_result_line}
@@ -53,7 +52,7 @@ module _ (old : Run) (bytes : List ℕ) (at : ℕ) where
       → cond test (taken next' line' new') (refused number) ≡ taken next line new
       → taken next' line' new' ≡ taken next line new
   taken_by true next' line' new' number same = same
-  taken_by false next' line' new' number same = absurd (clash (cc))
+  taken_by false next' line' new' number same = cc
 
   pub taken_so : {next : ℕ} {line : List ℕ} {new : Run}
       → desk_course.meets old bytes at ≡ taken next line new → TakenSo old bytes at next line
@@ -71,8 +70,8 @@ module _ (old : Run) (bytes : List ℕ) (at : ℕ) where
           is_read = is ∙ ap (Taken field) (same_next took);
           is_line_lem = same_line took;
         }
-    go End is same = absurd (clash (cc))
-    go (Refused number) is same = absurd (clash (cc))
+    go End is same = cc
+    go (Refused number) is same = cc
 
 -- ---- bytes behind
 

@@ -9,7 +9,6 @@ use Prim.Native.Nat.{ℕ}
 use lib.Dec.{eqb}
 use lib.ListN.{length}
 use borrow.Author.Tests.{eqb-false}
-use Rattle.rules.proofs.Clash.{clash}
 use Rattle.bus.specs.Command.{address_of, is_broadcast}
 use Rattle.card.specs.declared.place.Block.{Block}
 use Rattle.card.specs.Memory.{card_words, the_block}
@@ -73,7 +72,7 @@ two_are_different {one} {other} apart =
 -- a broadcast addresses no station
 pub to_all_lem : {terminals : List Card} (command : ℕ) → is_broadcast command ≡ true
     → Addressed command terminals
-to_all_lem command broadcast one = absurd (clash (cc))
+to_all_lem command broadcast one = cc
 
 -- ---- what is promised of the first of the terminals, and of the others
 

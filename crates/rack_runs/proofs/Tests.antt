@@ -9,7 +9,6 @@ use lib.Dec.{eqb}
 use lib.ListN.{length}
 use borrow.Author.Tests.{eqb-true, eqb-false, not-true}
 use Rattle.std.proofs.Common.{Option, Some, None}
-use Rattle.rules.proofs.Clash.{clash}
 use Rattle.rules.proofs.Halves.{first_of_both, second_of_both}
 use Rattle.bus.specs.Command.{address_of}
 use Rattle.card.specs.Memory.{card_words}
@@ -44,7 +43,7 @@ has_ended (Some message) = false
 
 ended_is_idle : (message : Option OpenMessage) → has_ended message ≡ true → message ≡ None
 ended_is_idle None ended = refl
-ended_is_idle (Some message) ended = absurd (clash (cc))
+ended_is_idle (Some message) ended = cc
 
 unfoldable pub is_idle_card : Card → Bool
 is_idle_card old =
@@ -125,7 +124,7 @@ is_on station (terminal ∷ terminals) =
 pub on_bus_by : (station : ℕ) (terminals : List Card) → is_on station terminals ≡ true
     → OnBus station terminals
 unfolding is_on
-on_bus_by station [] passed = absurd (clash (cc))
+on_bus_by station [] passed = cc
 on_bus_by station (terminal ∷ terminals) passed =
     by (eqb terminal.core.station station) refl (on_bus_by station terminals) passed where
       by : (this : Bool) → eqb terminal.core.station station ≡ this

@@ -8,7 +8,6 @@ use native.Mathlib.Omega.{arith}
 use lib.Dec.{eqb}
 use Rattle.std.proofs.Common.{Option, Some, None}
 use Rattle.rules.proofs.Choices.{by_test}
-use Rattle.rules.proofs.Clash.{clash}
 use Rattle.bus.specs.declared.word.Word.{Word}
 use Rattle.bus.specs.Command.{address_of}
 use Rattle.exchange.specs.declared.order.Order.{Order}
@@ -135,7 +134,7 @@ idle_late : {line : Bool} {most : ℕ} (message : Option OpenMessage) (word : Wo
     → is_idle message ≡ true → now.state.message ≡ message
     → Late line most (word_met message word now).desk
 idle_late None word now is same = over (rw same)
-idle_late (Some message) word now is same = absurd (clash (cc))
+idle_late (Some message) word now is same = cc
 
 word_late : {line : Bool} {most : ℕ} (word : Word) (now : Desk) → Late line most now
     → Late line most (word_step word now).desk

@@ -8,7 +8,6 @@ use lib.Dec.{ltb}
 use Rattle.std.proofs.Common.{Option, Some, None}
 use Rattle.rules.proofs.Cases.{beq_same}
 use Rattle.rules.proofs.Choices.{by_test}
-use Rattle.rules.proofs.Clash.{clash}
 use Rattle.exchange.specs.declared.order.Order.{Order}
 use Rattle.exchange.specs.declared.state.Stage.{Stage}
 use Rattle.exchange.specs.declared.state.Stage.TheVariants.{Awaiting, Reply, AwaitingLast, Ended}
@@ -69,7 +68,7 @@ idle_late : {line : Bool} {most : ℕ} (message : Option OpenMessage) (on : Bool
     → is_idle message ≡ true → now.state.message ≡ message
     → Late line most (silence_met message on now).desk
 idle_late None on now is same = over (rw same)
-idle_late (Some message) on now is same = absurd (clash (cc))
+idle_late (Some message) on now is same = cc
 
 met_late : (most : ℕ) (now : Desk) (message : OpenMessage)
     → silences message.progress ≤ suc most

@@ -7,13 +7,11 @@ use native.Mathlib.Omega.{arith}
 use lib.ListN.{length}
 use borrow.Author.Tests.{eqb-true}
 use Rattle.std.proofs.Common.{Option, Some, None}
-use Rattle.rules.proofs.Clash.{clash}
 use Rattle.card.specs.Memory.{block_cells, the_cell, word_address, cell_at}
 use Rattle.formats.specs.declared.code.Coded.{Coded}
 use Rattle.formats.specs.Code.{coded_by}
 use Rattle.exchange.specs.declared.order.Order.{Order}
 use Rattle.controller.specs.declared.state.OpenMessage.{OpenMessage}
-use Rattle.controller.specs.declared.start.Given.{Given}
 use Rattle.controller.specs.Control.{block_in, code_in}
 use Rattle.controller.specs.State.{Desk, desk, desk_words}
 use Rattle.controller.specs.Start.{
@@ -45,11 +43,7 @@ desk_block_in_memory old started = omega (arith, started.whole)
 
 -- ---- by the answer of a start
 
--- whether it gives words, and the order that it opens
-abbrev gives : Option Given → ℕ
-gives None = 0
-gives (Some words) = 1
-
+-- the order that it opens
 abbrev order_of : Order → Option OpenMessage → Order
 order_of other None = other
 order_of other (Some message) = message.order
@@ -59,7 +53,7 @@ module _ (order : Order) (old : Desk) where
   answered = starting order old
 
   nothing_given : (refusal : ℕ) → started_as refusal None old ≡ answered → ⊥
-  nothing_given refusal same = clash (ap (λ (any : Started). gives any.given) same)
+  nothing_given refusal same = cc (ap (λ (any : Started). any.given) same)
 
   by_code : (coded : Option Coded) → length old.ram ≡ desk_words → starting_by coded old ≡ answered
       → Starts order old

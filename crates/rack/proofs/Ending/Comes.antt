@@ -5,7 +5,6 @@ use mathlib.Core.List.{List, ◌++◌}
 use Prim.Native.Nat.{ℕ, suc}
 use Rattle.std.proofs.Common.{Option, Some, None}
 use Rattle.rules.proofs.Halves.{first_of_both}
-use Rattle.rules.proofs.Clash.{clash}
 use Rattle.controller.specs.declared.state.OpenMessage.{OpenMessage}
 use Rattle.controller.specs.State.{is_idle}
 use Rattle.rack.specs.Segment.{Spoken}
@@ -31,7 +30,7 @@ pub record Comes (turns : ℕ) (line : Bool) (clock : ℕ → Stamps) (waiting :
 
 idle_so : (message : Option OpenMessage) → is_idle message ≡ true → message ≡ None
 idle_so None is = refl
-idle_so (Some message) is = absurd (clash (cc))
+idle_so (Some message) is = cc
 
 module _ (more : ℕ) (line : Bool) (clock : ℕ → Stamps) (waiting : List Spoken) (old : Rack) where
   abbrev pub behind_turn : Rack

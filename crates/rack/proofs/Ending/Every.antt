@@ -7,7 +7,6 @@ use mathlib.Core.Bool.{Bool, true, false}
 use mathlib.Core.List.{List, [], ◌∷◌}
 use Prim.Native.Nat.{ℕ, suc}
 use native.Mathlib.Omega.{arith}
-use Rattle.rules.proofs.Clash.{clash}
 use Rattle.rules.proofs.Cases.{not_first}
 use Rattle.bus.specs.Command.{address_of}
 use Rattle.message.specs.Asked.{asked_of}
@@ -150,9 +149,9 @@ module _ (more : ℕ) (order : Order) (clock : ℕ → Stamps) (old : Rack)
           subst EndsBy (sym ((one_command order other).no_second order.second)) alone_ends
 
       by_row : (row : Row) → order.row ≡ row → EndsBy (second_given order.row order.second)
-      by_row ToTerminal is = alone (λ same. clash (cc))
-      by_row FromTerminal is = alone (λ same. clash (cc))
+      by_row ToTerminal is = alone (λ same. cc)
+      by_row FromTerminal is = alone (λ same. cc)
       by_row Between is = subst EndsBy (sym (two_commands order is).second) (two_end is)
-      by_row ModeAlone is = alone (λ same. clash (cc))
-      by_row ModeWithWord is = alone (λ same. clash (cc))
-      by_row ModeForWord is = alone (λ same. clash (cc))
+      by_row ModeAlone is = alone (λ same. cc)
+      by_row ModeWithWord is = alone (λ same. cc)
+      by_row ModeForWord is = alone (λ same. cc)

@@ -6,7 +6,6 @@ use mathlib.Core.Logic.{◌≢◌}
 use mathlib.Core.Bool.{Bool, true}
 use mathlib.Core.List.{List}
 use Prim.Native.Nat.{ℕ}
-use Rattle.rules.proofs.Clash.{clash}
 use Rattle.bus.specs.Command.{address_of}
 use Rattle.message.specs.declared.state.Stage.{Stage}
 use Rattle.message.specs.declared.state.Stage.TheVariants.{SecondCommand}
@@ -104,6 +103,6 @@ module _ (line : Bool) (stamps : Stamps) (first : ℕ) (words : List ℕ) (old :
         by_behind (waits message is on_line at holds none) = absurd (waits_not holds)
           where
             waits_not : {command : ℕ} → OfEither first second command SecondCommand → ⊥
-            waits_not (skips _ is at) = clash (cc)
-            waits_not (takes legal is at) = clash (cc)
+            waits_not (skips _ is at) = cc
+            waits_not (takes legal is at) = cc
             waits_not (opened is plain) = plain

@@ -8,7 +8,6 @@ use mathlib.Core.List.{List, []}
 use Prim.Native.Nat.{ℕ, ◌≤◌}
 use native.Mathlib.Decide.{ℕ_discrete}
 use borrow.Author.Tests.{eq-eqb, ne_eqb}
-use Rattle.rules.proofs.Clash.{clash}
 use Rattle.bus.specs.declared.word.Word.{Word}
 use Rattle.bus.specs.Limits.{last_station}
 use Rattle.bus.specs.Command.{address_of}
@@ -83,7 +82,7 @@ module _ (line : Bool) (stamps : Stamps) (first : ℕ) (now : Card) where
         absurd (none_second message.command holds)
 
     waiting_not : (command : ℕ) → Waiting first command SecondCommand → ⊥
-    waiting_not command holds = let never = holds.awaits in clash (cc)
+    waiting_not command holds = let never = holds.awaits in cc
 
     -- nothing is heard
     unheard : {spoken : Spoken} → at_station line stamps.word spoken now.core.station ≡ []

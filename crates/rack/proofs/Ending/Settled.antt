@@ -7,7 +7,6 @@ use mathlib.Core.List.{List, [], ◌∷◌, ◌++◌, append-nil}
 use Prim.Native.Nat.{ℕ, zero, suc, ◌≤◌}
 use native.Mathlib.Omega.{arith}
 use lib.ListN.{length}
-use Rattle.rules.proofs.Clash.{clash}
 use Rattle.terminal.specs.Event.{Outcome, quietly}
 use Rattle.controller.specs.State.{is_idle}
 use Rattle.rack.specs.Segment.{Spoken}
@@ -77,7 +76,7 @@ settled_comes zero line clock waiting old idle proper late few =
     (late_then zero line clock waiting old idle proper late) in
     let none : is_none (then_waiting zero line clock waiting old) ≡ true =
     none_waits (then_waiting zero line clock waiting old) fewer in
-    absurd (clash (cc)))
+    cc)
 settled_comes (suc more) line clock waiting old idle proper late few =
     let same : then_waiting (suc more) line clock waiting old ≡ behind_next waiting =
     none_more (suc more) line clock waiting old idle proper in

@@ -9,7 +9,6 @@ use lib.Dec.{eqb, ltb}
 use borrow.Author.Tests.{eqb-true}
 use Rattle.rules.proofs.Cases.{beq_same}
 use Rattle.rules.proofs.Choices.{by_test}
-use Rattle.rules.proofs.Clash.{clash}
 use Rattle.bus.specs.Command.{address_of, is_broadcast}
 use Rattle.message.specs.declared.judge.SilenceAct.{SilenceAct}
 use Rattle.message.specs.declared.judge.SilenceAct.TheVariants.{AwaitStatus, Fault, End}
@@ -43,12 +42,12 @@ use Rattle.rack.proofs.Ending.Met.{Met, idle, going}
 first_of_either : (first second : Bool) → (first || second) ≡ true → second ≡ false
     → first ≡ true
 first_of_either true second holds fails = refl
-first_of_either false second holds fails = absurd (clash (cc))
+first_of_either false second holds fails = cc
 
 -- a reply is given, so the command is no broadcast
 to_one_of : (broadcast others : Bool) → not (not broadcast && others) ≡ false
     → broadcast ≡ false
-to_one_of true others answers = absurd (clash (cc))
+to_one_of true others answers = cc
 to_one_of false others answers = refl
 
 module _ (line : Bool) (Holds : ℕ → Stage → Type 0) where

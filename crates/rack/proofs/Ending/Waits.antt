@@ -6,7 +6,6 @@ use mathlib.Core.Logic.{◌≢◌}
 use mathlib.Core.Bool.{Bool, false}
 use mathlib.Core.List.{List}
 use Prim.Native.Nat.{ℕ}
-use Rattle.rules.proofs.Clash.{clash}
 use Rattle.bus.specs.Command.{address_of}
 use Rattle.message.specs.declared.state.Stage.{Stage}
 use Rattle.message.specs.declared.state.Stage.TheVariants.{SecondCommand}
@@ -50,7 +49,7 @@ module _ (line : Bool) (stamps : Stamps) (first second : ℕ) (words : List ℕ)
   answered : (asked_of first).illegal ≡ false → old.core.station ≢ address_of second
       → (command : ℕ) (stage : Stage) → Plain stage → OfEither first second command stage
       → address_of command ≢ old.core.station
-  answered legal other command stage plain (skips illegal is at) same = clash (cc)
+  answered legal other command stage plain (skips illegal is at) same = cc
   answered legal other command stage plain (takes _ is at) same = subst Plain at plain
   answered legal other command stage plain (opened is _) same =
       other (sym same ∙ ap (λ (any : ℕ). address_of any) is)

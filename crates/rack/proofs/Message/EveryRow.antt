@@ -4,7 +4,6 @@ use mathlib.Core.Path.{◌≡◌, refl, ◌∙◌}
 use mathlib.Core.Logic.{◌≢◌}
 use mathlib.Core.Bool.{Bool, true, false}
 use Prim.Native.Nat.{ℕ, zero, suc}
-use Rattle.rules.proofs.Clash.{clash}
 use Rattle.formats.specs.declared.row.Row.{Row}
 use Rattle.formats.specs.declared.row.Row.TheVariants.{
   ToTerminal,
@@ -62,12 +61,12 @@ module _ (order : Order) (clock : ℕ → Stamps) (old : Rack) (asked : Asked or
   message_promised = by_row order.row refl
     where
       by_row : (row : Row) → order.row ≡ row → Promised order old (message clock old)
-      by_row ToTerminal is = alone (λ same. clash (cc))
-      by_row FromTerminal is = alone (λ same. clash (cc))
+      by_row ToTerminal is = alone (λ same. cc)
+      by_row FromTerminal is = alone (λ same. cc)
       by_row Between is = transfer is
-      by_row ModeAlone is = alone (λ same. clash (cc))
-      by_row ModeWithWord is = alone (λ same. clash (cc))
-      by_row ModeForWord is = alone (λ same. clash (cc))
+      by_row ModeAlone is = alone (λ same. cc)
+      by_row ModeWithWord is = alone (λ same. cc)
+      by_row ModeForWord is = alone (λ same. cc)
 
 pub run_promised : (count : ℕ) (clocks : ℕ → ℕ → Stamps) (old : Rack)
     → AskedEach count clocks old → PromisedEach count clocks old

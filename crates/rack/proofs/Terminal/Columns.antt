@@ -5,7 +5,6 @@ use mathlib.Core.Logic.{◌≢◌}
 use mathlib.Core.Bool.{true, not, cond}
 use Prim.Native.Nat.{ℕ}
 use lib.Dec.{eqb}
-use Rattle.rules.proofs.Clash.{clash}
 use Rattle.bus.specs.declared.kind.Kind.TheVariants.{Transmit}
 use Rattle.bus.specs.Command.{words_of}
 use Rattle.bus.specs.Kind.{kind_of}
@@ -67,7 +66,7 @@ pub alone_takes_nothing : (order : Order) → FitOrder order → order.row ≡ M
     → (asked_of order.first).takes ≡ 0
 unfolding format_for format_of
 alone_takes_nothing order fit is =
-    sym (alone_columns order (λ between. clash (cc)) fit).behind ∙ rw is
+    sym (alone_columns order (λ between. cc) fit).behind ∙ rw is
 
 -- ---- the two commands of a transfer
 

@@ -11,7 +11,6 @@ use borrow.Author.Tests.{eqb-false, not-true}
 use Rattle.std.proofs.Common.{Option, Some, None}
 use Rattle.rules.proofs.Choices.{by_test}
 use Rattle.rules.proofs.Halves.{first_of_both, second_of_both}
-use Rattle.rules.proofs.Clash.{clash}
 use Rattle.bus.specs.declared.mode.Mode.{Mode}
 use Rattle.bus.specs.declared.mode.ModeWord.{ModeWord}
 use Rattle.bus.specs.declared.mode.ModeWord.TheVariants.{Without, Sent, Taken}
@@ -103,7 +102,7 @@ mode_sends_none Without broadcast same code to_one =
     by_test SendsNone (eqb code 2) (λ status. refl) (λ other.
     by_test SendsNone (leb 4 code && leb code 7) (λ switch. refl) (λ reply. refl)))
     (λ not_allowed. refl)
-mode_sends_none Sent true same code to_one = absurd (clash (cc))
+mode_sends_none Sent true same code to_one = cc
 mode_sends_none Sent false false code to_one = refl
 mode_sends_none Sent false true code to_one = refl
 mode_sends_none Taken broadcast same code to_one =
@@ -133,5 +132,5 @@ sends_to_one command sends = go (is_broadcast command) refl
     go : (to_all_lem : Bool) → is_broadcast command ≡ to_all_lem → is_broadcast command ≡ false
     go true is =
         let silent : sends_words (kind_of command) ≡ false = broadcast_sends_none command is in
-        absurd (clash (cc))
+        cc
     go false is = is

@@ -7,7 +7,6 @@ use Prim.Native.Nat.{ℕ, ◌≤◌}
 use native.Mathlib.Omega.{arith}
 use lib.Dec.{eqb}
 use borrow.Author.Tests.{eq-eqb, ne_eqb, eqb-true}
-use Rattle.rules.proofs.Clash.{clash}
 use Rattle.bus.specs.Command.{address_of, is_broadcast}
 use Rattle.bus.specs.Limits.{last_station}
 use Rattle.message.specs.Words.{own_command}
@@ -37,7 +36,7 @@ module _ (command : ℕ) (old : Card) (to_one : is_broadcast command ≡ false) 
       go : (same : Bool) → eqb (address_of command) old.core.station ≡ same
           → old.core.station ≡ address_of command
       go true is = sym (eqb-true (address_of command) old.core.station is)
-      go false is = let never : false ≡ true = rw (is, to_one) at own in absurd (clash (cc))
+      go false is = let never : false ≡ true = rw (is, to_one) at own in cc
 
 -- a status has the address of the one who says it
 pub status_is_strange : (speaker status : ℕ) (old : Card) → address_of status ≡ speaker

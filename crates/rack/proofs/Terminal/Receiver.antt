@@ -6,7 +6,6 @@ use mathlib.Core.Logic.{◌≢◌}
 use mathlib.Core.Bool.{Bool, true, false}
 use mathlib.Core.List.{[], ◌∷◌}
 use Prim.Native.Nat.{ℕ}
-use Rattle.rules.proofs.Clash.{clash}
 use Rattle.bus.specs.Command.{address_of}
 use Rattle.message.specs.declared.state.Stage.TheVariants.{SecondCommand, AwaitingStatus}
 use Rattle.terminal.specs.State.{Card, with_status, with_last, with_message}
@@ -34,7 +33,7 @@ module _ (first second : ℕ) (fit : FitTransfer first second) (old : Card)
   pub sender_is_other : address_of second ≢ old.core.station
   sender_is_other same =
       let never : is_own second old ≡ true = own_at_home second old fit.to_one (sym same) in
-      clash (cc)
+      cc
 
   module _ (line : Bool) (stamps : Stamps) where
     abbrev time : ℕ

@@ -4,7 +4,6 @@ use mathlib.Core.Path.{◌≡◌, refl, ap, sym, ◌∙◌}
 use mathlib.Core.Bool.{Bool, true, false}
 use mathlib.Core.List.{[], ◌∷◌}
 use Prim.Native.Nat.{ℕ}
-use Rattle.rules.proofs.Clash.{clash}
 use Rattle.bus.specs.declared.word.Word.{Word}
 use Rattle.bus.specs.Command.{address_of, is_broadcast}
 use Rattle.terminal.specs.State.{Card, with_status, with_last, with_message}
@@ -50,7 +49,7 @@ module _ (line : Bool) (time time' first second : ℕ) (fit : FitTransfer first 
       go false is =
           let strange : is_own first old ≡ false =
           strange_elsewhere first old is (λ same. fit.other_station (sym home ∙ same)) in
-          absurd (clash (cc))
+          cc
 
   -- .. and dropped
   first_is_dropped : is_broadcast first ≡ true

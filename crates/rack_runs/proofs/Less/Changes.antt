@@ -7,7 +7,6 @@ use mathlib.Core.List.{List, [], ◌∷◌}
 use Prim.Native.Nat.{ℕ, ◌≤◌, ◌<◌}
 use native.Mathlib.Omega.{arith}
 use Rattle.std.proofs.Common.{Option, Some, None}
-use Rattle.rules.proofs.Clash.{clash}
 use Rattle.card.specs.declared.place.Block.{Block}
 use Rattle.card.specs.declared.place.Cell.{Cell}
 use Rattle.card.specs.Memory.{the_block, the_cell, word_address}
@@ -113,7 +112,7 @@ a_message_would_change_no_data_cell claim =
     omega arith
   where
     never : May false true true (asked_of 0x2862) (the_block 2) (the_block 1) 128 → ⊥
-    never (a_data_cell may low is) = clash (cc)
+    never (a_data_cell may low is) = cc
     never (a_service_cell may has from to is) = omega arith
     never (the_link may has is) = omega arith
 
@@ -128,7 +127,7 @@ a_message_would_change_no_service_cell claim =
   where
     never : May true false true (asked_of 0x2862) (the_block 2) (the_block 1) 187 → ⊥
     never (a_data_cell may low is) = omega arith
-    never (a_service_cell may has from to is) = clash (cc)
+    never (a_service_cell may has from to is) = cc
     never (the_link may has is) = omega arith
 
 -- the table cell what stands in cell 63 of block 2
@@ -143,4 +142,4 @@ a_message_would_leave_the_link claim =
     never : May true true false (asked_of 0x2862) (the_block 2) (the_block 1) 67 → ⊥
     never (a_data_cell may low is) = omega arith
     never (a_service_cell may has from to is) = omega arith
-    never (the_link may has is) = clash (cc)
+    never (the_link may has is) = cc

@@ -7,7 +7,6 @@ use mathlib.Core.List.{[], ◌∷◌}
 use Prim.Native.Nat.{ℕ}
 use native.Mathlib.Omega.{arith}
 use lib.ListN.{length, replicate}
-use Rattle.rules.proofs.Clash.{clash}
 use Rattle.card.specs.Memory.{card_words, the_block}
 use Rattle.queue.specs.Queue.{empty_queue}
 use Rattle.message.specs.declared.state.OpenMessage.{OpenMessage}
@@ -69,7 +68,7 @@ begins = starts_by ToTerminal false to_five refl refl refl
 -- ---- a message may be open
 
 idle_is_not_open : {message : OpenMessage} → None ≡ Some message → ⊥
-idle_is_not_open same = clash (cc)
+idle_is_not_open same = cc
 
 record EvenOpen (terminal : Card) : Type 0 where
   whole_and_fit : WholeAndFit terminal
@@ -171,4 +170,4 @@ an_unfit_state_would_become_fit claim =
     (λ one. here refl) one_is_different
     (record { whole_memory = refl; idle = refl; status = refl }) (ready_by refl refl refl))
     ).terminals).0.rest.whole_and_fit.fit in
-    clash (cc)
+    cc

@@ -4,7 +4,6 @@ use mathlib.Core.Path.{◌≡◌, refl}
 use mathlib.Core.Bool.{false}
 use mathlib.Core.List.{[], ◌∷◌}
 use lib.ListN.{replicate}
-use Rattle.rules.proofs.Clash.{clash}
 use Rattle.formats.specs.declared.row.Row.TheVariants.{ToTerminal}
 use Rattle.exchange.specs.declared.order.Order.{Order}
 use Rattle.controller.specs.State.{Desk, desk, at_setup}
@@ -69,4 +68,4 @@ a_message_that_is_open_would_end claim =
     (record { row = refl; broadcast = refl }) (λ one. here refl) one_is_different
     five_is_idle (five_is_ready 0x2862 refl refl))
     ).over in
-    clash (cc)
+    cc

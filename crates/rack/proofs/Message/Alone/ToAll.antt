@@ -6,7 +6,6 @@ use mathlib.Core.Bool.{Bool, true, false}
 use mathlib.Core.List.{[]}
 use Prim.Native.Nat.{ℕ}
 use native.Mathlib.Omega.{arith}
-use Rattle.rules.proofs.Clash.{clash}
 use Rattle.terminal.specs.State.{Card}
 use Rattle.exchange.specs.declared.order.Order.{Order}
 use Rattle.exchange.specs.Order.{format_for}
@@ -73,7 +72,7 @@ module _ (order : Order) (clock : ℕ → Stamps) (old : Rack) (first : FirstTur
       terminal done
   same (behind_status none_given at-2 answers) terminal done =
       let never : (format_for order).status ≡ false = first.columns.status ∙ rw to_all_lem in
-      absurd (clash (cc))
+      cc
 
   pub promised_to_all : Promised order old (message clock old)
   unfolding ended with_order

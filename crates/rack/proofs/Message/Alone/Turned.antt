@@ -7,7 +7,6 @@ use mathlib.Core.List.{List}
 use Prim.Native.Nat.{ℕ}
 use lib.ListN.{length}
 use Rattle.std.proofs.Common.{Some, None}
-use Rattle.rules.proofs.Clash.{clash}
 use Rattle.bus.specs.Command.{address_of, is_broadcast}
 use Rattle.message.specs.Asked.{asked_of}
 use Rattle.terminal.specs.State.{Card}
@@ -67,7 +66,7 @@ module _ (line : Bool) (stamps : Stamps) (first : ℕ) (words : List ℕ) where
     turned_took (took own done) home = done
     turned_took (stays strange quiet) home =
         let own : is_own first old ≡ true = own_at_home first old to_one home in
-        absurd (clash (cc))
+        cc
 
     -- and nothing comes from elsewhere
     pub turned_elsewhere : Turned old

@@ -6,7 +6,6 @@ use mathlib.Core.Bool.{Bool, true, false, cond}
 use mathlib.Core.List.{[]}
 use Prim.Native.Nat.{ℕ}
 use Rattle.std.proofs.Common.{Some, None}
-use Rattle.rules.proofs.Clash.{clash}
 use Rattle.bus.specs.Command.{address_of, is_broadcast}
 use Rattle.terminal.specs.State.{Card}
 use Rattle.terminal.specs.Event.{Outcome, quietly}
@@ -66,10 +65,10 @@ module _ (line : Bool) (stamps : Stamps) (first second : ℕ) where
     begun_took (sends own took) home = took
     begun_took (waits strange own waiting) home =
         let never : is_own second old ≡ true = own_at_home second old to_one home in
-        absurd (clash (cc))
+        cc
     begun_took (stays strange strange_first quiet) home =
         let never : is_own second old ≡ true = own_at_home second old to_one home in
-        absurd (clash (cc))
+        cc
 
     -- and nothing comes from elsewhere
     pub begun_elsewhere : Begun old

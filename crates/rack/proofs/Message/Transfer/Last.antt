@@ -7,7 +7,6 @@ use mathlib.Core.List.{List, [], ◌∷◌}
 use Prim.Native.Nat.{ℕ, ◌≤◌}
 use native.Mathlib.Omega.{arith}
 use lib.ListN.{drop_of_length-le}
-use Rattle.rules.proofs.Clash.{clash}
 use Rattle.bus.specs.Limits.{last_station}
 use Rattle.bus.specs.Command.{address_of, is_broadcast}
 use Rattle.message.specs.Asked.{asked_by, asked_of}
@@ -102,7 +101,7 @@ module _ (order : Order) (clock : ℕ → Stamps) (old : Rack) (first : FirstTur
     replies (stayed strange strange_first quiet) home =
         let never : is_own order.first terminal ≡ true =
         own_at_home order.first terminal to_one (sym keeps ∙ home) in
-        absurd (clash (cc))
+        cc
 
     elsewhere : Done line (clock first_turn) (clock second_turn) order.first order.second
         first.got.status first.got.reply terminal

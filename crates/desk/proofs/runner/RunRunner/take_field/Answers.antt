@@ -35,5 +35,5 @@ overflow_sub-taken c =
 pub returns : goal.returns
 returns c =
     field_taken c.args.self.now _ _ _ _ _ _ c.read_field.ensures c.in-Some.taken
-    (c.in_ok-taken.was ∙ ap (λ any. Ok any) c.in-Some.is) _ _ _ c.do_field.ensures c.in_ok-answer.answer
-    _ _ c.pass.new.self c.in_ok-answer.was c.put_answer.ensures (search rules)
+    (c.in_ok-taken.was ∙ ap (λ any. Ok any) c.in-Some.is) _ _ _ c.do_field.ensures
+    c.in_ok-answer.answer _ _ c.pass.new.self c.in_ok-answer.was c.put_answer.ensures (search rules)
