@@ -32,8 +32,7 @@ fn is_shared(tag: u8) -> bool
 fn read_shared(bytes: &[u8], place: usize, seen: Seen) -> Result<Option<Taken>, Refusal>
     ensures { reading result ≡ shared_as (recording.read_at bytes.now place seen) }
 {
-    let taken =
-        recording::read_field(bytes, place, seen).map_err(|refused| refused.refusal)?;
+    let taken = recording::read_field(bytes, place, seen).map_err(|refused| refused.refusal)?;
     Ok(taken.map(|taken| Taken {
         field: Field::Shared(taken.field),
         next: taken.next,
