@@ -23,7 +23,7 @@ TYPE = re.compile(r"^pub (?:struct|enum) (\w+)", re.MULTILINE)
 FUNCTION = re.compile(r'^(\s*)(?:(pub )|pub\(crate\) )?(?:extern "C" )?fn (\w+)', re.MULTILINE)
 # a public function up to its first brace: with a contract that is the one behind `ensures`
 SIGNATURE = re.compile(r'^\s*pub (?:extern "C" )?fn (\w+)([^{]*)\{', re.MULTILINE)
-BLOCK = re.compile(r"^impl (\w+) \{$(.*?)^\}$", re.MULTILINE | re.DOTALL)
+BLOCK = re.compile(r"^impl(?:<[^>]*>)? (\w+)(?:<[^>]*>)? \{$(.*?)^\}$", re.MULTILINE | re.DOTALL)
 
 
 def stated(crate, file, name):

@@ -10,6 +10,8 @@ use Rattle.terminal.specs.Event.{replied, queue_word}
 use Rattle.actions.specs.Actions.{After, after, over, alone, Done, done, no_terminal}
 use Rattle.actions.proofs.Terminal.setup.Kinds as setup_kinds
 use Rattle.actions.proofs.Terminal.setup.Reads as setup_reads
+use Rattle.actions.proofs.Terminal.of_no_station.Kinds as none_kinds
+use Rattle.actions.proofs.Terminal.of_no_station.Reads as none_reads
 use Rattle.actions.proofs.Terminal.is_fit.Kinds as is_fit_kinds
 use Rattle.actions.proofs.Terminal.is_fit.Reads as is_fit_reads
 use Rattle.actions.proofs.Terminal.word.Kinds as word_kinds
@@ -29,6 +31,9 @@ pub setup :
     DeterminedAs 0 setup_kinds.ps setup_kinds.r setup_reads.Post Done
     (λ κs result exit. done (refused result) (result_unwrap_or result no_terminal))
 setup κs arguments result result' exit exit' = same
+
+pub of_no_station : Determined 0 none_kinds.ps none_kinds.r none_reads.Post
+of_no_station κs arguments result result' exit exit' = same
 
 pub word :
     DeterminedAs 2 word_kinds.ps word_kinds.r word_reads.Post After

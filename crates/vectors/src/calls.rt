@@ -13,6 +13,7 @@ use crate::{given, notation, recordings};
 use actions::Terminal;
 use card::place::{Block, CARD_BLOCKS};
 use card::sent;
+use refusals::Refusal;
 
 // What every word of the RAM is before a call.
 const GIVEN: u16 = 0x1234;
@@ -55,16 +56,25 @@ fn action_of(number: u16, first: u16, second: u16) -> Action {
     }
 }
 
-fn number_if(right: bool, number: u8) -> u8 {
-    if right { number } else { WRONG }
+fn number_of<A: Copy>(answer: Result<A, Refusal>) -> u8 {
+    match answer {
+        Ok(_) => 0,
+        Err(refusal) => u8::from(refusal),
+    }
 }
 
-fn host_write(terminal: &mut Terminal, ram: &mut [u16], address: u16, count: u16) -> u8 {
+// Where it is refused there is no terminal.
+fn setup(terminal: &mut Terminal) -> u8 {
+    let core = terminal.core;
+    let made = Terminal::setup(core.station, core.table.0, core.flags);
+    *terminal = made.unwrap_or(Terminal::of_no_station());
+    number_of(made)
+}
+
+fn host_write(terminal: &Terminal, ram: &mut [u16], address: u16, count: u16) -> u8 {
     let words = [0x5555; 65];
     let end = usize::from(count % 66);
-    let done = terminal.host_write(ram, address, &words[..end]);
-    *terminal = done.terminal;
-    done.refusal
+    number_of(terminal.host_write(ram, address, &words[..end]))
 }
 
 // A part that is refused is empty; one that is shown has the words that were asked for.
@@ -72,48 +82,23 @@ fn words_to_send(ram: &[u16], block: Block, count: u16) -> u8 {
     let number = sent::refusal(ram, CARD_BLOCKS, block, count).map_or(0, u8::from);
     let wanted = if number == 0 { count } else { 0 };
     let shown = sent::part(ram, CARD_BLOCKS, block, count).len();
-    number_if(shown == usize::from(wanted), number)
-}
-
-// A read that is refused has no word.
-fn read_queue(terminal: &mut Terminal) -> u8 {
-    let answered = terminal.read_queue();
-    *terminal = answered.terminal;
-    let right = answered.refusal == 0 || answered.word == 0;
-    number_if(right, answered.refusal)
+    if shown == usize::from(wanted) {
+        number
+    } else {
+        WRONG
+    }
 }
 
 // Performs an action, and answers the number of its refusal.
 fn perform(action: Action, terminal: &mut Terminal, ram: &mut [u16]) -> u8 {
     match action {
-        Action::Setup => {
-            let core = terminal.core;
-            let done = Terminal::setup(core.station, core.table.0, core.flags);
-            *terminal = done.terminal;
-            done.refusal
-        }
-        Action::Word { marks } => {
-            let answered = terminal.word(ram, marks, 0x2C61, 9);
-            *terminal = answered.terminal;
-            answered.refusal
-        }
-        Action::Silence { line } => {
-            let answered = terminal.silence(ram, line, 9);
-            *terminal = answered.terminal;
-            answered.refusal
-        }
+        Action::Setup => setup(terminal),
+        Action::Word { marks } => number_of(terminal.word(ram, marks, 0x2C61, 9)),
+        Action::Silence { line } => number_of(terminal.silence(ram, line, 9)),
         Action::HostWrite { address, count } => host_write(terminal, ram, address, count),
-        Action::ReadQueue => read_queue(terminal),
-        Action::MoveTable { table } => {
-            let done = terminal.move_table(table);
-            *terminal = done.terminal;
-            done.refusal
-        }
-        Action::SetFlags { flags } => {
-            let done = terminal.set_flags(flags);
-            *terminal = done.terminal;
-            done.refusal
-        }
+        Action::ReadQueue => number_of(terminal.read_queue()),
+        Action::MoveTable { table } => number_of(terminal.move_table(table)),
+        Action::SetFlags { flags } => number_of(terminal.set_flags(flags)),
         Action::WordsToSend { block, count } => words_to_send(ram, block, count),
     }
 }

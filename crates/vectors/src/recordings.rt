@@ -5,7 +5,6 @@ use crate::notation::{Bytes, CASE_BYTES};
 use message::state::Stage;
 use queue::Ring;
 use terminal::state::Core;
-use tray;
 use tray::Tray;
 
 // ---- what a run leaves, in the bytes of the notation
@@ -41,20 +40,12 @@ pub(crate) fn put_state(out: &mut Bytes, core: Core, ring: Ring) {
 
 // What a recording prints, and leaves on a new card.
 fn put_run(out: &mut Bytes, recording: &[u8]) {
-    let mut places = [0; 256];
+    let mut tray = Tray::at_start();
     let mut ram = [0; 16384];
     let mut lines = [0; CASE_BYTES];
-    let passed = tray::run_window(
-        Tray::at_start(),
-        &mut places,
-        &mut ram,
-        recording,
-        &mut lines,
-        true,
-    );
-    let held = passed.tray.held;
+    let passed = pieces::run_window(&mut tray, &mut ram, recording, &mut lines, true);
     notation::put_bytes(out, lines.get(..passed.put).unwrap_or(&[]));
-    put_state(out, held.core, held.ring);
+    put_state(out, tray.core, tray.queue.ring);
     notation::put_others(out, &ram, 0);
 }
 

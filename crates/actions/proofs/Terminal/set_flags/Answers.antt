@@ -11,7 +11,8 @@ pub returns-in_err-refusal : goal.returns-in_err-refusal
 unfolding set_flags_action
 returns-in_err-refusal c =
     let error = err_from_is_err_and c.from_residual.result c.from_residual.ensures.1 in
-    rw (error.1, error.2) (alone_refused _ _ Value _ (set_flags c.args.flags) _ c.in_err-refusal.ensures)
+    rw (error.1, error.2)
+    (alone_refused _ _ Value _ (set_flags c.args.flags) _ c.in_err-refusal.ensures)
 
 pub returns : goal.returns
 unfolding set_flags_action set_flags_step step

@@ -1,6 +1,5 @@
 -- `actions::Terminal::setup` meets its contract: refused, or begun. Assumes nothing.
 use Rattle.std.proofs.lemmas.Result.{err_from_is_err_and}
-use Rattle.actions.specs.Actions.{terminal_at_setup}
 use Rattle.actions.proofs.ActionLaws.{setup_refused, setup_done}
 use Rattle.actions.proofs.Terminal.setup.Goals as goal
 
@@ -10,7 +9,4 @@ returns-in_err-setup_refusal c =
     rw (error.1, error.2) (setup_refused _ _ _ _ c.in_err-setup_refusal.ensures)
 
 pub returns : goal.returns
-unfolding terminal_at_setup
-returns c =
-    rw (c.at_setup.ensures, c.empty.ensures)
-    (setup_done _ _ _ c.in_ok-setup_refusal.ensures)
+returns c = rw c.at_setup.ensures (setup_done _ _ _ c.in_ok-setup_refusal.ensures)

@@ -10,8 +10,11 @@ returns-then-not-asked c = rw (not-true c.args.asked.block c.if-not-asked.true)
 pub returns-then-message : goal.returns-then-message
 unfolding closed_ram
 returns-then-message c =
-    rw (not-false c.args.asked.block c.if-not-asked.false, c.if-message.true, ← c.ticks-ticks.ensures)
-    c.write_service.ensures
+    rw (
+      not-false c.args.asked.block c.if-not-asked.false,
+      c.if-message.true,
+      ← c.ticks-ticks.ensures,
+    ) c.write_service.ensures
 
 pub returns : goal.returns
 unfolding closed_ram
