@@ -23,7 +23,7 @@ TYPE = re.compile(r"^pub (?:struct|enum) (\w+)", re.MULTILINE)
 FUNCTION = re.compile(r'^(\s*)(?:(pub )|pub\(crate\) )?(?:extern "C" )?fn (\w+)', re.MULTILINE)
 # a public function up to its first brace: with a contract that is the one behind `ensures`
 SIGNATURE = re.compile(r'^\s*pub (?:extern "C" )?fn (\w+)([^{]*)\{', re.MULTILINE)
-BLOCK = re.compile(r"^impl (\w+) \{$(.*?)^\}$", re.MULTILINE | re.DOTALL)
+BLOCK = re.compile(r"^impl(?:<[^>]*>)? (\w+)(?:<[^>]*>)? \{$(.*?)^\}$", re.MULTILINE | re.DOTALL)
 
 
 def stated(crate, file, name):
@@ -100,7 +100,7 @@ def main():
     wrong += [f"{path.relative_to(ROOT)}: {name} has no contract, or requires something"
               for path in sorted(CRATES.glob("*/src/*.rt"))
               for name, until in SIGNATURE.findall(path.read_text())
-              if not until.rstrip().endswith("ensures")]
+              if not re.search(r"ensures(?: \w+)?$", until.rstrip())]
     for line in wrong:
         print(f"FAILED THEOREMS: {line}")
     print(f"THEOREMS: {len(tokens)} names, {len(wrong)} wrong")

@@ -1,5 +1,27 @@
 -- The laws of `specs/Host.antt`: what `write_words` copies is all that is stored. Assumes nothing.
-use Rattle.std.proofs.Common.{◌≡◌, ℕ, suc, ◌+◌, ◌-◌, ◌≤◌, min, List, [], ◌∷◌, length, take, set, sym, refl, ◌∙◌, arith, append_assoc, length-set, length-take, take_all}
+use Rattle.std.proofs.Common.{
+  ◌≡◌,
+  ℕ,
+  suc,
+  ◌+◌,
+  ◌-◌,
+  ◌≤◌,
+  min,
+  List,
+  [],
+  ◌∷◌,
+  length,
+  take,
+  set,
+  sym,
+  refl,
+  ◌∙◌,
+  arith,
+  append_assoc,
+  length-set,
+  length-take,
+  take_all,
+}
 use native.Mathlib.Decide.{dec_lt, dec_le}
 use lib.Seq.{sets, sets-eq, set_out, drop-drop}
 use borrow.Rule.Slice.PartMut.{put_mid}
@@ -36,8 +58,9 @@ pub copied : (ram words part : List ℕ) (address first count : ℕ)
 copied ram words part address first count begins few is =
     let long : length part ≡ count = rw is (length-take count words ∙ omega (arith, few)) in
     let more : first + count - first ≡ count = omega arith in
+    let fits : first + length part ≤ length ram = omega arith in
     let pasted : put_mid first (first + count - first) ram part ≡ sets ram first part =
-    rw (more, drop-drop count first ram, sets-eq part ram first (omega arith), long, append_assoc) in
+    rw (more, drop-drop count first ram, sets-eq part ram first fits, long, append_assoc) in
     elim (dec_lt address (length ram)) [
       | yes inside ↦
           let here : first ≡ address = omega arith in

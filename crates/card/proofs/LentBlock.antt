@@ -120,7 +120,8 @@ module _ {ram : List ℕ} {block : Block} {lent : Range ℕ} (cells : LentCells 
 
   pub lent_service : (part : List ℕ) (state closing ticks : ℕ)
       → part
-      ≡ with_service (mid_of lent.start (lent.end - lent.start) ram) (the_block 0) state closing ticks
+      ≡ with_service (mid_of lent.start (lent.end - lent.start) ram) (the_block 0) state closing
+      ticks
       → put_mid lent.start (lent.end - lent.start) ram part
       ≡ with_service ram block state closing ticks
   lent_service part state closing ticks is =

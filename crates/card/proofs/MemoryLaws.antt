@@ -1,6 +1,21 @@
 -- The laws of `specs/Memory.antt`, for any number of blocks: the address law, and a store to a cell
 -- that is there and to one that is not. Assumes nothing.
-use Rattle.std.proofs.Common.{◌≡◌, ℕ, ◌<◌, ◌≤◌, ◌≢◌, List, length, set, ap, arith, length-set, get_or-set_same, le-ltb, lt-ltb}
+use Rattle.std.proofs.Common.{
+  ◌≡◌,
+  ℕ,
+  ◌<◌,
+  ◌≤◌,
+  ◌≢◌,
+  List,
+  length,
+  set,
+  ap,
+  arith,
+  length-set,
+  get_or-set_same,
+  le-ltb,
+  lt-ltb,
+}
 use native.Mathlib.Decide.{dec_lt}
 use Rattle.card.specs.declared.place.Block.{Block}
 use Rattle.card.specs.declared.place.Cell.{Cell}

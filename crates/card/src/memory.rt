@@ -13,14 +13,19 @@ pub fn read_cell(ram: &[u16], block: Block, cell: Cell) -> u16
     ensures { result ≡ cell_at ram.now block cell }
 {
     let address = place::word_address(block, cell);
-    ram.get(address).copied().unwrap_or(0)
+    // by a test: with `get(..).copied().unwrap_or(0)`, and `min` for the test in `cells_of`, a run
+    // of mode commands took 3 % longer
+    if address < ram.len() { ram[address] } else { 0 }
 }
 
 // Where a block's cells lie, as far as the RAM has them.
 fn cells_of(ram: &[u16], block: Block) -> Range<usize>
     ensures { LentCells ram.now block result }
 {
-    let start = place::word_address(block, Cell(0)).min(ram.len());
+    let start = place::word_address(block, Cell(0));
+    if ram.len() <= start {
+        return ram.len()..ram.len();
+    }
     start..(start + BLOCK_CELLS).min(ram.len())
 }
 

@@ -1,5 +1,6 @@
-// The words to send: the part of the RAM that starts at their block's cell 0, 32 at the most. `part`
-// is the one function of every such part; these two name the number, as their definitions do.
+// The words to send: the part of the RAM that starts at their block's cell 0, 32 at the most.
+// `part` is the one function of every such part; these two name the number, as their
+// definitions do.
 ghost use Rattle.std.specs.Prelude.{◌≡◌, length};
 ghost use Rattle.card.specs.Sent.{sent_refusal, sent_part};
 ghost use Rattle.refusals.specs.Number.{refusal_in};

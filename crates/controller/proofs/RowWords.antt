@@ -22,7 +22,7 @@ use Rattle.exchange.specs.Judge.{exchange_of, data_heard, word_heard, on_word}
 use Rattle.controller.specs.declared.state.Controller.{Controller}
 use Rattle.controller.specs.Control.{block_in, line_in}
 use Rattle.controller.specs.State.{Desk, desk, open_back, with_message}
-use Rattle.controller.specs.Heard.{Heard, heard_as, word_done, word_met, word_step, words_step}
+use Rattle.controller.specs.Heard.{Heard, heard_as, word_step, words_step}
 
 module _ (state : Controller) (order : Order) (mark : Bool) where
   -- in the reply to an order, with so many data words in

@@ -27,7 +27,7 @@ use Rattle.exchange.specs.declared.state.Exchange.{Exchange}
 use Rattle.controller.specs.declared.state.OpenMessage.{OpenMessage}
 use Rattle.controller.specs.Control.{block_in, line_in, code_in}
 use Rattle.controller.specs.State.{Desk}
-use Rattle.controller.specs.Start.{Started, may_start, starting, starting_by, start_step}
+use Rattle.controller.specs.Start.{Started, may_start, starting_by, start_step}
 use Rattle.controller.specs.Heard.{
   Heard,
   ended,

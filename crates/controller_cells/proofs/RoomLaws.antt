@@ -20,8 +20,8 @@ use Rattle.exchange.specs.declared.state.Exchange.{Exchange}
 use Rattle.controller.specs.declared.state.OpenMessage.{OpenMessage}
 use Rattle.controller.specs.declared.state.Controller.{Controller}
 use Rattle.lines.specs.Lines.{blank, newline}
-use Rattle.lines.specs.Written.{put}
-use Rattle.shown.specs.Text.{bytes, fitted, Fits}
+use Rattle.lines.specs.declared.Page.{Page}
+use Rattle.shown.specs.Text.{bytes, Fits}
 use Rattle.shown.specs.Cells.{cell_lines}
 use Rattle.shown.proofs.TextLaws.{fits_then}
 use Rattle.shown.proofs.RoomLaws.{
@@ -98,15 +98,13 @@ of_state run = go run.seen.setup where
   go false = record { bound = omega arith }
 
 -- the state, then the cells, are all of what the program prints behind a run's lines
-pub nothing_is_cut : (run : HeldRun) (ram out out₁ after : List ℕ) (next end : ℕ)
-    → length ram ≡ 16384 → length out ≡ 172032
-    → put next out₁ ≡ fitted out 0 (state_text run)
-    → put end after ≡ fitted out₁ next (cell_lines 0 ram)
-    → take end after ≡ state_text run ++ cell_lines 0 ram
-nothing_is_cut run ram out out₁ after next end cells room is is' =
-    let state : Fits out 0 (state_text run) out₁ next = record { is_fitted = is } in
-    let rest : Fits out₁ next (cell_lines 0 ram) after end = record { is_fitted = is' } in
-    put_whole out (state_text run ++ cell_lines 0 ram) after end (fits_then state rest)
+pub nothing_is_cut : (run : HeldRun) (ram : List ℕ) (empty stated full : Page)
+    → length ram ≡ 16384
+    → empty.at ≡ 0 → length empty.out.now ≡ 172032
+    → Fits empty (state_text run) stated → Fits stated (cell_lines 0 ram) full
+    → take full.at full.out.now ≡ state_text run ++ cell_lines 0 ram
+nothing_is_cut run ram empty stated full cells start room state rest =
+    put_whole empty (state_text run ++ cell_lines 0 ram) full (fits_then state rest) start
     (omega (
       arith,
       (both (of_state run) (of_cells 0 ram)).bound,

@@ -1,12 +1,20 @@
 -- The laws of `specs/State.antt`: the parts of the state's text in turn, as the code puts them.
 -- Assumes nothing.
-use mathlib.Core.Path.{◌≡◌}
+use mathlib.Core.Path.{◌≡◌, refl}
 use mathlib.Core.Bool.{true, false}
-use mathlib.Core.List.{List}
-use Prim.Native.Nat.{ℕ}
+use mathlib.Core.List.{◌++◌}
 use Rattle.std.proofs.Common.{Option, Some, None}
+use denote.Enum.Declared.{tag_of}
+use Rattle.formats.specs.contracts.row.Row.{the_type}
 use Rattle.formats.specs.declared.row.Row.{Row}
-use Rattle.exchange.specs.declared.order.Order.{Order}
+use Rattle.formats.specs.declared.row.Row.TheVariants.{
+  ToTerminal,
+  FromTerminal,
+  Between,
+  ModeAlone,
+  ModeWithWord,
+  ModeForWord,
+}
 use Rattle.exchange.specs.declared.state.Stage.{Stage}
 use Rattle.exchange.specs.declared.state.Stage.TheVariants.{
   Awaiting,
@@ -17,12 +25,10 @@ use Rattle.exchange.specs.declared.state.Stage.TheVariants.{
 use Rattle.exchange.specs.declared.state.Exchange.{Exchange}
 use Rattle.controller.specs.declared.state.Came.{Came}
 use Rattle.controller.specs.declared.state.OpenMessage.{OpenMessage}
-use Rattle.controller.specs.declared.state.Controller.{Controller}
-use Rattle.lines.specs.Digits.{hex_word, decimal}
-use Rattle.lines.specs.Written.{put}
-use Rattle.shown.specs.Text.{bytes, fitted, Fits}
+use Rattle.lines.specs.Digits.{decimal}
+use Rattle.lines.specs.declared.Page.{Page}
+use Rattle.shown.specs.Text.{bytes, Fits}
 use Rattle.shown.specs.Item.{part, line, mark_text}
-use Rattle.shown.proofs.TextLaws.{fits_then}
 use Rattle.desk.specs.declared.run.Run.{Run as HeldRun}
 use Rattle.controller_cells.specs.State.{
   result_text,
@@ -31,123 +37,93 @@ use Rattle.controller_cells.specs.State.{
   stage_text,
   progress_text,
   message_text,
-  words_text,
   controller_text,
   state_text,
 }
 
 -- ---- one part
 
--- the row tells its number
-pub numbered : (row named : Row) (number : ℕ) → row ≡ named → number ≡ row_number named
-    → number ≡ row_number row
-numbered row named number is counted = rw is counted
+-- the place of a row among its kind is its number
+numbered : (row : Row) → tag_of the_type row ≡ row_number row
+unfolding row_number
+numbered ToTerminal = refl
+numbered FromTerminal = refl
+numbered Between = refl
+numbered ModeAlone = refl
+numbered ModeWithWord = refl
+numbered ModeForWord = refl
 
-module _ {out : List ℕ} {at : ℕ} {after : List ℕ} {next : ℕ} where
+module _ {old new : Page} where
   pub result_none : (result : Option Came) → result ≡ None
-      → Fits out at (bytes "result none\n") after next
-      → Fits out at (result_text result) after next
+      → Fits old (bytes "result none\n") new
+      → Fits old (result_text result) new
   unfolding result_text
   result_none result is fits = rw is fits
 
-  pub row_fits : (row : Row) (number : ℕ) → number ≡ row_number row
-      → Fits out at (part "open row " (decimal number)) after next
-      → Fits out at (part "open row " (decimal (row_number row))) after next
-  row_fits row number is fits = rw (← is) fits
+  pub row_fits : (row : Row) → Fits old (part "open row " (decimal (tag_of the_type row))) new
+      → Fits old (part "open row " (decimal (row_number row))) new
+  row_fits row fits = rw (← numbered row) fits
 
   module _ (stage : Stage) where
-    pub stage_awaiting : stage ≡ Awaiting → Fits out at (bytes "stage awaiting ") after next
-        → Fits out at (part "stage " (stage_text stage)) after next
+    pub stage_awaiting : stage ≡ Awaiting → Fits old (bytes "stage awaiting ") new
+        → Fits old (part "stage " (stage_text stage)) new
     stage_awaiting is fits = rw is fits
 
-    pub stage_reply : stage ≡ Reply → Fits out at (bytes "stage reply ") after next
-        → Fits out at (part "stage " (stage_text stage)) after next
+    pub stage_reply : stage ≡ Reply → Fits old (bytes "stage reply ") new
+        → Fits old (part "stage " (stage_text stage)) new
     stage_reply is fits = rw is fits
 
-    pub stage_last : stage ≡ AwaitingLast → Fits out at (bytes "stage last ") after next
-        → Fits out at (part "stage " (stage_text stage)) after next
+    pub stage_last : stage ≡ AwaitingLast → Fits old (bytes "stage last ") new
+        → Fits old (part "stage " (stage_text stage)) new
     stage_last is fits = rw is fits
 
-    pub stage_ended : stage ≡ Ended → Fits out at (bytes "stage ended ") after next
-        → Fits out at (part "stage " (stage_text stage)) after next
+    pub stage_ended : stage ≡ Ended → Fits old (bytes "stage ended ") new
+        → Fits old (part "stage " (stage_text stage)) new
     stage_ended is fits = rw is fits
 
   pub progress_given : (progress : Option Exchange) → progress ≡ None
-      → Fits out at (bytes "stage given taken 0 mark 0\n") after next
-      → Fits out at (progress_text progress) after next
+      → Fits old (bytes "stage given taken 0 mark 0\n") new
+      → Fits old (progress_text progress) new
   unfolding progress_text
   progress_given progress is fits = rw is fits
 
   pub message_idle : (message : Option OpenMessage) → message ≡ None
-      → Fits out at (bytes "open none\n") after next
-      → Fits out at (message_text message) after next
+      → Fits old (bytes "open none\n") new
+      → Fits old (message_text message) new
   unfolding message_text
   message_idle message is fits = rw is fits
 
   pub state_none : (run : HeldRun) → run.seen.setup ≡ false
-      → Fits out at (bytes "control none\n") after next
-      → put next after ≡ fitted out at (state_text run)
+      → Fits old (bytes "control none\n") new
+      → Fits old (state_text run) new
   unfolding state_text
-  state_none run is fits = rw is fits.is_fitted
+  state_none run is fits = rw is fits
 
   pub state_some : (run : HeldRun) → run.seen.setup ≡ true
-      → Fits out at (controller_text run.controller) after next
-      → put next after ≡ fitted out at (state_text run)
+      → Fits old (controller_text run.controller) new
+      → Fits old (state_text run) new
   unfolding state_text
-  state_some run is fits = rw is fits.is_fitted
+  state_some run is fits = rw is fits
 
--- ---- part after part
+  -- ---- with its parts
 
-module _ {out out₁ : List ℕ} {at at₁ : ℕ} where
-  pub result_came : {after : List ℕ} {next : ℕ} (result : Option Came) (came : Came)
-      → result ≡ Some came
-      → Fits out at (part "result " (decimal came.code)) out₁ at₁
-      → Fits out₁ at₁ (line "" (mark_text came.mark)) after next
-      → Fits out at (result_text result) after next
+  pub result_came : (result : Option Came) (came : Came) → result ≡ Some came
+      → Fits old (part "result " (decimal came.code) ++ line "" (mark_text came.mark)) new
+      → Fits old (result_text result) new
   unfolding result_text
-  result_came result came is first second = rw is (fits_then first second)
+  result_came result came is fits = rw is fits
 
-  pub message_open : {after : List ℕ} {next : ℕ} (message : Option OpenMessage) (held : OpenMessage)
-      → message ≡ Some held
-      → Fits out at (order_text held.order) out₁ at₁
-      → Fits out₁ at₁ (progress_text held.progress) after next
-      → Fits out at (message_text message) after next
+  pub message_open : (message : Option OpenMessage) (held : OpenMessage) → message ≡ Some held
+      → Fits old (order_text held.order ++ progress_text held.progress) new
+      → Fits old (message_text message) new
   unfolding message_text
-  message_open message held is first second = rw is (fits_then first second)
+  message_open message held is fits = rw is fits
 
-  module _ {out₂ : List ℕ} {at₂ : ℕ} where
-    pub progress_back : {after : List ℕ} {next : ℕ} (progress : Option Exchange) (answer : Exchange)
-        → progress ≡ Some answer
-        → Fits out at (part "stage " (stage_text answer.stage)) out₁ at₁
-        → Fits out₁ at₁ (part "taken " (decimal answer.taken)) out₂ at₂
-        → Fits out₂ at₂ (line "mark " (mark_text answer.mark)) after next
-        → Fits out at (progress_text progress) after next
-    unfolding progress_text
-    progress_back progress answer is first second third =
-        rw is (fits_then (fits_then first second) third)
-
-    pub words_fits : {after : List ℕ} {next : ℕ} (state : Controller)
-        → Fits out at (line "control " (hex_word state.control)) out₁ at₁
-        → Fits out₁ at₁ (line "count " (decimal state.count)) out₂ at₂
-        → Fits out₂ at₂ (line "due " (mark_text state.due)) after next
-        → Fits out at (words_text state) after next
-    unfolding words_text
-    words_fits state first second third = fits_then (fits_then first second) third
-
-    pub controller_fits : {after : List ℕ} {next : ℕ} (state : Controller)
-        → Fits out at (words_text state) out₁ at₁
-        → Fits out₁ at₁ (result_text state.result) out₂ at₂
-        → Fits out₂ at₂ (message_text state.message) after next
-        → Fits out at (controller_text state) after next
-    unfolding controller_text
-    controller_fits state first second third = fits_then (fits_then first second) third
-
-    pub order_fits : {out₃ after : List ℕ} {at₃ next : ℕ} (order : Order)
-        → Fits out at (part "open row " (decimal (row_number order.row))) out₁ at₁
-        → Fits out₁ at₁ (part "group " (mark_text order.broadcast)) out₂ at₂
-        → Fits out₂ at₂ (part "first " (hex_word order.first)) out₃ at₃
-        → Fits out₃ at₃ (part "second " (hex_word order.second)) after next
-        → Fits out at (order_text order) after next
-    unfolding order_text
-    order_fits order first second third fourth =
-        fits_then (fits_then (fits_then first second) third) fourth
+  pub progress_back : (progress : Option Exchange) (answer : Exchange) → progress ≡ Some answer
+      → Fits old
+      (part "stage " (stage_text answer.stage)
+      ++ part "taken " (decimal answer.taken)
+      ++ line "mark " (mark_text answer.mark)) new
+      → Fits old (progress_text progress) new
+  unfolding progress_text
+  progress_back progress answer is fits = rw is fits

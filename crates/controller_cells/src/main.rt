@@ -7,20 +7,22 @@ mod state;
 
 use desk::Run;
 use desk_stream;
+use lines::Page;
 use shown::cells;
 use std::io::Write;
 
 // State and cells, in one write. There is room for both (`nothing_is_cut`): the state takes less
 // than 300 bytes, and 16,384 cells take 163,840, at 10 bytes a line.
-fn print_left<O: Write>(output: &mut O, run: Run, ram: &[u16; 16384]) {
-    let memory: &[u16] = ram;
+fn print_left<O: Write>(output: &mut O, run: Run, ram: &[u16]) {
     let mut space: [u8; 172032] = [0; 172032];
-    let out: &mut [u8] = &mut space;
-    let next = state::put_state(out, 0, run);
-    let end = cells::put_cells(out, next, memory);
-    let text = &out[..];
+    let mut page = Page {
+        out: &mut space,
+        at: 0,
+    };
+    state::put_state(&mut page, run);
+    cells::put_cells(&mut page, ram);
     // whether they were taken is not asked: nothing comes behind them
-    output.write_all(&text[0..end]).is_ok();
+    let _ = output.write_all(page.written());
 }
 
 fn main(rt: HostRuntime) {
@@ -32,6 +34,5 @@ fn main(rt: HostRuntime) {
     if !done.whole {
         return;
     }
-    let run = done.run;
-    print_left(&mut output, run, &ram);
+    print_left(&mut output, done.run, &ram);
 }

@@ -24,9 +24,11 @@ use Rattle.card.specs.Memory.{the_cell, word_address}
 use Rattle.card.specs.Part.{shown_part}
 use Rattle.card.proofs.PartLaws.{shown}
 use Rattle.lines.specs.Lines.{result_line}
-use Rattle.lines.specs.Written.{put, line_written, most_given, given_written}
+use Rattle.lines.specs.Page.{Leaves, line_on}
+use Rattle.lines.specs.Written.{line_room, most_given, given_written}
+use Rattle.lines.specs.declared.Page.{Page}
+use Rattle.lines.proofs.LineLaws.{nothing_left}
 use Rattle.lines.proofs.WrittenLaws.{few_given}
-use Rattle.pieces.proofs.LineLaws.{nothing_written}
 use Rattle.controller.specs.declared.state.Came.{Came}
 use Rattle.controller.specs.declared.start.Given.{Given}
 use Rattle.controller.specs.State.{desk_blocks}
@@ -56,44 +58,45 @@ few_given_words ram block count = go (eqb number 0) refl where
       )
   go false is = omega arith
 
-module _ (out : List ℕ) (at : ℕ) (ram : List ℕ) (given : Option Given) where
-  pub nothing_given : given ≡ None → put at out ≡ line_written out at (given_text ram given)
-  nothing_given is = rw is (nothing_written out at)
+module _ (old : Page) (ram : List ℕ) (given : Option Given) where
+  pub nothing_given : given ≡ None → Leaves old old (line_on old (given_text ram given))
+  nothing_given is = rw is (nothing_left line_room old)
 
-  pub words_given_lem : (next : ℕ) (after : List ℕ) (told : Given) (words : List ℕ)
+  pub words_given_lem : (new : Page) (told : Given) (words : List ℕ)
       → given ≡ Some told → words ≡ controller.given_part ram told.block told.count
-      → put next after ≡ given_written out at words
-      → put next after ≡ line_written out at (given_text ram given)
-  words_given_lem next after told words is is_words is_put =
-      rw (is, is_put, is_words)
-      (few_given out at (controller.given_part ram told.block told.count)
-      (few_given_words ram told.block told.count))
+      → Leaves old new (given_written old.out.now old.at words)
+      → Leaves old new (line_on old (given_text ram given))
+  words_given_lem new told words is is_words printed =
+      let part : List ℕ = controller.given_part ram told.block told.count in
+      let line : Leaves old new (given_written old.out.now old.at part) =
+      rw is_words at printed in
+      rw is (rw (few_given old.out.now old.at part (few_given_words ram told.block told.count)) at line)
 
 pub ruleset given_lines = (nothing_given, words_given_lem)
 
 -- ---- the result, and either
 
-module _ (out : List ℕ) (at : ℕ) where
+module _ (old : Page) where
   pub no_result : (result : Option Came) → result ≡ None
-      → put at out ≡ line_written out at (result_text result)
-  no_result result is = rw is (nothing_written out at)
+      → Leaves old old (line_on old (result_text result))
+  no_result result is = rw is (nothing_left line_room old)
 
-  module _ (next : ℕ) (after : List ℕ) where
+  module _ (new : Page) where
     pub result_came : (result : Option Came) (came : Came) → result ≡ Some came
-        → put next after ≡ line_written out at (result_line came.code came.mark)
-        → put next after ≡ line_written out at (result_text result)
-    result_came result came is is_put = rw is is_put
+        → Leaves old new (line_on old (result_line came.code came.mark))
+        → Leaves old new (line_on old (result_text result))
+    result_came result came is printed = rw is printed
 
     module _ (ram : List ℕ) (answer : Answer) where
       pub gave_line : (given : Option Given) → answer ≡ Gave given
-          → put next after ≡ line_written out at (given_text ram given)
-          → put next after ≡ line_written out at (answer_line ram answer)
-      gave_line given is is_put = rw is is_put
+          → Leaves old new (line_on old (given_text ram given))
+          → Leaves old new (line_on old (answer_line ram answer))
+      gave_line given is printed = rw is printed
 
       pub ended_line : (result : Option Came) → answer ≡ Ended result
-          → put next after ≡ line_written out at (result_text result)
-          → put next after ≡ line_written out at (answer_line ram answer)
-      ended_line result is is_put = rw is is_put
+          → Leaves old new (line_on old (result_text result))
+          → Leaves old new (line_on old (answer_line ram answer))
+      ended_line result is printed = rw is printed
 
 pub ruleset result_lines = (no_result, result_came)
 

@@ -30,7 +30,19 @@ use Rattle.recording.specs.Bytes.{bytes_left, byte_at, word_at}
 use Rattle.recording.specs.Reading as recording
 use Rattle.recording.proofs.ReadingLaws.{not_none}
 use Rattle.desk.specs.declared.field.Field.TheVariants.{Setup, Start}
-use Rattle.desk.specs.Reading.{Reading, Taken, End, Refused, setup_tag, start_tag, own_refusal, own_at, is_shared, shared_as, read_at}
+use Rattle.desk.specs.Reading.{
+  Reading,
+  Taken,
+  End,
+  Refused,
+  setup_tag,
+  start_tag,
+  own_refusal,
+  own_at,
+  is_shared,
+  shared_as,
+  read_at,
+}
 
 -- ---- a field of the controller's own
 

@@ -1,6 +1,29 @@
 -- What a reading tells of the bytes (`reading_tells`), and what a field that was read brings: it
 -- ends further on, inside the bytes, and the words of a write stand there. Assumes nothing.
-use Rattle.std.proofs.Common.{◌≡◌, ℕ, ◌+◌, ◌<◌, ◌≤◌, Bool, true, false, not, eqb, Option, Some, Result, Ok, List, length, sym, refl, subst, true≢false, arith, eqb-true}
+use Rattle.std.proofs.Common.{
+  ◌≡◌,
+  ℕ,
+  ◌+◌,
+  ◌<◌,
+  ◌≤◌,
+  Bool,
+  true,
+  false,
+  not,
+  eqb,
+  Option,
+  Some,
+  Result,
+  Ok,
+  List,
+  length,
+  sym,
+  refl,
+  subst,
+  true≢false,
+  arith,
+  eqb-true,
+}
 use Rattle.rules.proofs.Choices.{by_test}
 use Rattle.refusals.specs.declared.Refusal.{Refusal}
 use Rattle.recording.specs.declared.field.Field.{Field as SharedField}
@@ -15,7 +38,20 @@ use Rattle.recording.proofs.WaitingLaws.{few_at_the_end, few_at_a_refusal}
 use Rattle.pieces.specs.Course.{may_go_on}
 use Rattle.desk.specs.declared.field.Field.{Field}
 use Rattle.desk.specs.declared.field.Field.TheVariants.{Setup, Start, Shared}
-use Rattle.desk.specs.Reading.{Reading, Taken, End, Refused, setup_tag, start_tag, own_refusal, own_at, is_shared, shared_as, read_at, reading}
+use Rattle.desk.specs.Reading.{
+  Reading,
+  Taken,
+  End,
+  Refused,
+  setup_tag,
+  start_tag,
+  own_refusal,
+  own_at,
+  is_shared,
+  shared_as,
+  read_at,
+  reading,
+}
 use Rattle.desk.specs.declared.reading.Taken.{Taken as FieldTaken}
 use Rattle.desk.specs.AsCoded.Held.{WordsThere, WasRead}
 use Rattle.desk.proofs.ReadingLaws.{own_whole, own_waits}

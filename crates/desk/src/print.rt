@@ -1,5 +1,6 @@
 // The lines that a run prints, into the buffer that it is lent.
 ghost use Rattle.std.specs.Prelude.{◌≡◌};
+ghost use Rattle.lines.specs.Page.{Leaves, line_on};
 ghost use Rattle.lines.specs.Written.{put, line_written};
 ghost use Rattle.desk.specs.Deed.{given_text, result_text, answer_line};
 
@@ -7,34 +8,41 @@ use crate::deed::Answer;
 use controller::given;
 use controller::start::Given;
 use controller::state::Came;
-use lines;
+use lines::Page;
 
-fn put_given(out: &mut [u8], at: usize, ram: &[u16], words: Option<Given>) -> usize
-    ensures { put result out.new
-        ≡ line_written out.old at (given_text ram.now words) }
+fn put_given(page: &mut Page, ram: &[u16], words: Option<Given>)
+    ensures { Leaves page.old page.new (line_on page.old (given_text ram.now words)) }
 {
     match words {
-        None => at,
-        Some(words) => lines::given_line(out, at, given::part(ram, words.block, words.count)),
+        None => {}
+        Some(words) => page.given_line(given::part(ram, words.block, words.count)),
     }
 }
 
-fn put_result(out: &mut [u8], at: usize, res: Option<Came>) -> usize
-    ensures { put result out.new
-        ≡ line_written out.old at (result_text res) }
+fn put_result(page: &mut Page, res: Option<Came>)
+    ensures { Leaves page.old page.new (line_on page.old (result_text res)) }
 {
     match res {
-        None => at,
-        Some(came) => lines::result_line(out, at, came.code, came.mark),
+        None => {}
+        Some(came) => page.result_line(came.code, came.mark),
     }
 }
 
+fn put_line(page: &mut Page, ram: &[u16], answer: Answer)
+    ensures { Leaves page.old page.new (line_on page.old (answer_line ram.now answer)) }
+{
+    match answer {
+        Answer::Gave(given) => put_given(page, ram, given),
+        Answer::Ended(result) => put_result(page, result),
+    }
+}
+
+// The place alone is given and answered, since a call over a window keeps it beside the run.
 pub(crate) fn put_answer(out: &mut [u8], at: usize, ram: &[u16], answer: Answer) -> usize
     ensures { put result out.new
         ≡ line_written out.old at (answer_line ram.now answer) }
 {
-    match answer {
-        Answer::Gave(given) => put_given(out, at, ram, given),
-        Answer::Ended(result) => put_result(out, at, result),
-    }
+    let mut page = Page { out, at };
+    put_line(&mut page, ram, answer);
+    page.at
 }

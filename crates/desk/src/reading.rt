@@ -32,14 +32,12 @@ fn is_shared(tag: u8) -> bool
 fn read_shared(bytes: &[u8], place: usize, seen: Seen) -> Result<Option<Taken>, Refusal>
     ensures { reading result ≡ shared_as (recording.read_at bytes.now place seen) }
 {
-    match recording::read_field(bytes, place, seen) {
-        Ok(Some(taken)) => Ok(Some(Taken {
-            field: Field::Shared(taken.field),
-            next: taken.next,
-        })),
-        Ok(None) => Ok(None),
-        Err(refused) => Err(refused.refusal),
-    }
+    let taken =
+        recording::read_field(bytes, place, seen).map_err(|refused| refused.refusal)?;
+    Ok(taken.map(|taken| Taken {
+        field: Field::Shared(taken.field),
+        next: taken.next,
+    }))
 }
 
 // Whether a field of the controller's own stands whole at a place and comes in order, by the

@@ -18,7 +18,19 @@ use Rattle.recording.specs.AsCoded.Pieces as recorded
 use Rattle.recording.proofs.MoreBytes.{byte_of_more, word_of_more, settled_stays}
 use Rattle.desk.specs.declared.field.Field.{Field}
 use Rattle.desk.specs.declared.field.Field.TheVariants.{Start}
-use Rattle.desk.specs.Reading.{Reading, Taken, End, Refused, setup_tag, start_tag, own_refusal, own_at, is_shared, shared_as, read_at}
+use Rattle.desk.specs.Reading.{
+  Reading,
+  Taken,
+  End,
+  Refused,
+  setup_tag,
+  start_tag,
+  own_refusal,
+  own_at,
+  is_shared,
+  shared_as,
+  read_at,
+}
 use Rattle.desk.proofs.ReadingLaws.{own_whole}
 
 -- whether a reading stands, whatever bytes come behind: all do but the end and refusal 5

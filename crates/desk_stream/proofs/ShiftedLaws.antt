@@ -20,7 +20,20 @@ use Rattle.pieces.specs.Course.{further_on}
 use Rattle.controller.specs.State.{Desk}
 use Rattle.desk.specs.declared.field.Field.{Field}
 use Rattle.desk.specs.declared.field.Field.TheVariants.{Setup, Start, Shared}
-use Rattle.desk.specs.Reading.{Reading, Taken, End, Refused, setup_tag, start_tag, own_refusal, own_at, is_shared, shared_as, read_at, seen_after}
+use Rattle.desk.specs.Reading.{
+  Reading,
+  Taken,
+  End,
+  Refused,
+  setup_tag,
+  start_tag,
+  own_refusal,
+  own_at,
+  is_shared,
+  shared_as,
+  read_at,
+  seen_after,
+}
 use Rattle.desk.specs.Deed.{Done, deed_of}
 use Rattle.desk.specs.Run.{Run, taking, took_by, met_by, desk_course}
 

@@ -5,7 +5,6 @@
 --     HexLaws        hex digits read back to their number
 --     DecimalLaws    decimal digits read back to their number, with no leading zero
 --     PartLaws       what is stored part after part is stored at once
---     LoopLaws       the loops over words and bytes
 --     LineLaws       a line on each way that the code takes
 --     Determined     each public contract allows one outcome alone
 --     Examples       what no run shows, by computation
@@ -15,7 +14,6 @@ pub mod Lengths
 pub mod HexLaws
 pub mod DecimalLaws
 pub mod PartLaws
-pub mod LoopLaws
 pub mod LineLaws
 pub mod Determined
 mod Examples

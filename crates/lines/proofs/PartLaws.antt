@@ -1,41 +1,44 @@
 -- The parts of a line: what is stored part after part is stored at once, be the parts bytes, texts
 -- or digits. Assumes nothing.
 use mathlib.Core.Path.{◌≡◌, refl, ap, ◌∙◌}
-use mathlib.Core.List.{List, [], ◌∷◌, ◌++◌}
-use Prim.Native.Nat.{ℕ, zero, suc, ◌+◌, ◌-◌, ◌/◌, ◌%◌, ◌≤◌, ◌<◌}
+use mathlib.Core.List.{List, [], ◌∷◌, ◌++◌, append_assoc, append-nil}
+use Prim.Native.Nat.{ℕ, zero, suc, ◌+◌, ◌-◌, ◌*◌, ◌/◌, ◌%◌, ◌≤◌, ◌<◌}
 use native.Mathlib.Nat.{add-zero, add-suc, suc-add}
-use native.Mathlib.Numerals.{add-one}
 use native.Mathlib.Omega.{arith}
-use lib.ListN.{length, set, length-set, length-append}
-use lib.Seq.{sets}
-use Rattle.rules.proofs.LastArm.{NoneBelow, none_below}
+use borrow.Rule.Slice.PartMut.{put_mid}
+use lib.ListN.{length, set, get_or, take, length-append}
+use lib.Seq.{sets, sets-eq, length-sets, take_all}
+use Rattle.std.proofs.lemmas.List.{drop-drop, take_more}
+use Rattle.rules.proofs.Tabulated.{at_each_place}
 use Rattle.lines.specs.Digits.{hex_digit, hex_byte, hex_word, decimal_by}
-use Rattle.lines.specs.Lines.{blank}
-use Rattle.lines.specs.Written.{Put, stored, Wrote}
+use Rattle.lines.specs.Lines.{blank, each_word}
+use Rattle.lines.specs.Written.{Put, stored}
+use Rattle.lines.specs.Page.{Wrote}
+use Rattle.lines.specs.declared.Page.{Page}
 use Rattle.lines.proofs.DecimalLaws.{no_places, one_digit, tens_and_digit}
 
 -- ---- bytes
 
-module _ (out : List ℕ) (at : ℕ) where
-  pub wrote_one : (byte : ℕ) → Wrote out at (byte ∷ []) (set out at byte) (at + 1)
-  unfolding stored
-  wrote_one byte = record { is_stored = refl; as_long = length-set out at byte }
+-- bytes that are copied to a place are stored there
+pub copied : (out : List ℕ) (at end : ℕ) (bytes : List ℕ)
+    → end ≡ at + length bytes → end ≤ length out
+    → put_mid at (end - at) out bytes ≡ sets out at bytes
+copied out at end bytes is inside =
+    let count : end - at ≡ length bytes = omega arith in
+    rw (count, sets-eq bytes out at (omega arith), drop-drop (length bytes) at out, append_assoc)
 
-  pub wrote_two : (first second : ℕ)
-      → Wrote out at (first ∷ second ∷ []) (set (set out at first) (at + 1) second) (at + 2)
-  unfolding stored
-  wrote_two first second =
-      record { is_stored = rw (add-one at); as_long = simp length-set }
-
-  pub wrote_four : (first second third fourth : ℕ)
-      → Wrote out at (first ∷ second ∷ third ∷ fourth ∷ [])
-      (set (set (set (set out at first) (at + 1) second) (at + 2) third) (at + 3) fourth) (at + 4)
-  unfolding stored
-  wrote_four first second third fourth =
-      let one : at + 1 ≡ suc at = omega arith in
-      let two : at + 2 ≡ suc (suc at) = omega arith in
-      let three : at + 3 ≡ suc (suc (suc at)) = omega arith in
-      record { is_stored = rw (one, two, three); as_long = simp length-set }
+pub wrote_bytes : {old new : Page} (bytes : List ℕ)
+    → new.out.ghost_name ≡ old.out.ghost_name
+    → new.out.now ≡ sets old.out.now old.at bytes → new.at ≡ old.at + length bytes
+    → Wrote (length bytes) old bytes new
+unfolding stored
+wrote_bytes {old} {new} bytes same bytes_are next =
+    record {
+      same_buffer = same;
+      is_stored = cc;
+      as_long = ap length bytes_are ∙ length-sets old.out.now old.at bytes;
+      fits = omega arith;
+    }
 
 -- ---- one text after the other
 
@@ -46,114 +49,150 @@ sets_append out at (byte ∷ text) more =
     rw (add-suc at (length text), ← suc-add at (length text))
     (sets_append (set out at byte) (suc at) text more)
 
-module _ {out : List ℕ} {at : ℕ} {text after : List ℕ} {next : ℕ}
-    (wrote : Wrote out at text after next) where
-  next_is : next ≡ at + length text
+-- the two parts of what a page has after a text is stored
+module _ {room : ℕ} {old new : Page} {text : List ℕ} (wrote : Wrote room old text new) where
+  next_is : new.at ≡ old.at + length text
   unfolding stored
   next_is = ap (λ (left : Put). left.next) wrote.is_stored
 
-  after_is : after ≡ sets out at text
+  after_is : new.out.now ≡ sets old.out.now old.at text
   unfolding stored
   after_is = ap (λ (left : Put). left.bytes) wrote.is_stored
 
-  pub stored_then : (more : List ℕ) → stored after next more ≡ stored out at (text ++ more)
+  pub stored_then : (more : List ℕ)
+      → stored new.out.now new.at more ≡ stored old.out.now old.at (text ++ more)
   unfolding stored
   stored_then more =
-      let long : next + length more ≡ at + length (text ++ more) =
+      let long : new.at + length more ≡ old.at + length (text ++ more) =
       omega (arith, next_is, length-append text more) in
-      let bytes : sets after next more ≡ sets out at (text ++ more) =
-      rw (after_is, next_is) (sets_append out at text more) in
+      let bytes : sets new.out.now new.at more ≡ sets old.out.now old.at (text ++ more) =
+      rw (after_is, next_is) (sets_append old.out.now old.at text more) in
       cc
 
-  pub wrote_then : {text' after' : List ℕ} {next' : ℕ}
-      → Wrote after next text' after' next' → Wrote out at (text ++ text') after' next'
-  wrote_then {text' = text'} wrote' =
-      record {
-        is_stored = wrote'.is_stored ∙ stored_then text';
-        as_long = wrote'.as_long ∙ wrote.as_long;
-      }
+pub wrote_then : {room more : ℕ} {old between new : Page} {text text' : List ℕ}
+    → Wrote room old text between → Wrote more between text' new
+    → Wrote (room + more) old (text ++ text') new
+wrote_then {text' = text'} wrote wrote' =
+    record {
+      same_buffer = wrote'.same_buffer ∙ wrote.same_buffer;
+      is_stored = wrote'.is_stored ∙ stored_then wrote text';
+      as_long = wrote'.as_long ∙ wrote.as_long;
+      fits = omega (arith, wrote.fits, wrote'.fits);
+    }
+
+-- a part that has more room than it needs
+pub within : {room more : ℕ} {old new : Page} {text : List ℕ}
+    → Wrote room old text new → room ≤ more → Wrote more old text new
+within wrote enough =
+    record {
+      same_buffer = wrote.same_buffer;
+      is_stored = wrote.is_stored;
+      as_long = wrote.as_long;
+      fits = omega (arith, wrote.fits);
+    }
 
 -- ---- hex
 
-pub digit_of : (number known digit : ℕ)
-    → number ≡ known → digit ≡ hex_digit known → digit ≡ hex_digit number
-digit_of number known digit is same = rw is same
+-- the digits, as the code lists them
+pub digit_at : (number : ℕ)
+    → get_or (48 ∷ 49 ∷ 50 ∷ 51 ∷ 52 ∷ 53 ∷ 54 ∷ 55 ∷ 56 ∷ 57 ∷ 65 ∷ 66 ∷ 67 ∷ 68 ∷ 69 ∷ 70 ∷ [])
+    (number % 16) 0 ≡ hex_digit (number % 16)
+unfolding hex_digit
+digit_at number = at_each_place hex_digit _ 16 (number % 16) 0 refl (omega arith)
 
-pub digit_last : (number digit : ℕ)
-    → number < 16 → NoneBelow number 15 → digit ≡ hex_digit 15 → digit ≡ hex_digit number
-digit_last number digit below none same =
-    digit_of number 15 digit (last (none_below number 15 none) below) same
-  where
-    last : 15 ≤ number → number < 16 → ◌≡◌ {A = ℕ} number 15
-    last least below = omega arith
-
-byte_digits : (byte high low : ℕ)
-    → high ≡ hex_digit (byte / 16 % 16) → low ≡ hex_digit (byte % 16)
-    → hex_byte byte ≡ high ∷ low ∷ []
-unfolding hex_byte
-byte_digits byte high low high_is low-is = rw (high_is, low-is)
-
-word_digits : (word first second third fourth : ℕ)
-    → first ≡ hex_digit (word / 4096 % 16) → second ≡ hex_digit (word / 256 % 16)
-    → third ≡ hex_digit (word / 16 % 16) → fourth ≡ hex_digit (word % 16)
-    → hex_word word ≡ first ∷ second ∷ third ∷ fourth ∷ []
-unfolding hex_word
-word_digits word first second third fourth first-is second_is third-is fourth_is =
-    rw (first-is, second_is, third-is, fourth_is)
-
-module _ {out : List ℕ} {at : ℕ} {after : List ℕ} {next : ℕ} where
-  pub wrote_hex_byte : (byte : ℕ) {high low : ℕ} → Wrote out at (high ∷ low ∷ []) after next
+module _ {old new : Page} where
+  pub wrote_hex_byte : (byte : ℕ) {high low : ℕ} → Wrote 2 old (high ∷ low ∷ []) new
       → high ≡ hex_digit (byte / 16 % 16) → low ≡ hex_digit (byte % 16)
-      → Wrote out at (hex_byte byte) after next
-  wrote_hex_byte byte {high} {low} wrote high_is low-is =
-      rw (byte_digits byte high low high_is low-is) wrote
+      → Wrote 2 old (hex_byte byte) new
+  unfolding hex_byte
+  wrote_hex_byte byte wrote high_is low_is = rw (← high_is, ← low_is) wrote
 
   pub wrote_hex_word : (word : ℕ) {first second third fourth : ℕ}
-      → Wrote out at (first ∷ second ∷ third ∷ fourth ∷ []) after next
+      → Wrote 4 old (first ∷ second ∷ third ∷ fourth ∷ []) new
       → first ≡ hex_digit (word / 4096 % 16) → second ≡ hex_digit (word / 256 % 16)
       → third ≡ hex_digit (word / 16 % 16) → fourth ≡ hex_digit (word % 16)
-      → Wrote out at (hex_word word) after next
-  wrote_hex_word word {first} {second} {third} {fourth} wrote is is' is'' is''' =
-      rw (word_digits word first second third fourth is is' is'' is''') wrote
+      → Wrote 4 old (hex_word word) new
+  unfolding hex_word
+  wrote_hex_word word wrote is is' is'' is''' = rw (← is, ← is', ← is'', ← is''') wrote
 
--- a blank and a word
-pub wrote_word : {out : List ℕ} {at : ℕ} {between after : List ℕ} {first next : ℕ} (word : ℕ)
-    → Wrote out at (blank ∷ []) between first → Wrote between first (hex_word word) after next
-    → Wrote out at (blank ∷ hex_word word) after next
-wrote_word word wrote wrote' = wrote_then wrote wrote'
+-- ---- each word after a blank
+
+each_word_append : (words more : List ℕ)
+    → each_word (words ++ more) ≡ each_word words ++ each_word more
+unfolding each_word
+each_word_append [] more = refl
+each_word_append (word ∷ words) more =
+    rw (
+      each_word_append words more,
+      append_assoc (hex_word word) (each_word words) (each_word more),
+    )
+
+each_word_one : (word : ℕ) → each_word (word ∷ []) ≡ blank ∷ hex_word word
+unfolding each_word
+each_word_one word = rw (append-nil (hex_word word))
+
+each_word_more : (words : List ℕ) (index : ℕ) → index < length words
+    → each_word (take (index + 1) words)
+    ≡ each_word (take index words) ++ (blank ∷ hex_word (get_or words index 0))
+each_word_more words index inside =
+    rw (
+      take_more words index 0 inside,
+      each_word_append (take index words) (get_or words index 0 ∷ []),
+      each_word_one (get_or words index 0),
+    )
+
+nothing_wrote : (page : Page) → Wrote 0 page [] page
+unfolding stored
+nothing_wrote page =
+    record {
+      same_buffer = refl;
+      is_stored = rw (add-zero page.at);
+      as_long = refl;
+      fits = omega arith;
+    }
+
+pub words_none : (page : Page) (words : List ℕ) → Wrote 0 page (each_word (take 0 words)) page
+unfolding each_word
+words_none page words = nothing_wrote page
+
+-- one word more
+pub words_more : {old between after new : Page} (words : List ℕ) (index : ℕ)
+    → Wrote (5 * index) old (each_word (take index words)) between
+    → Wrote 1 between (blank ∷ []) after
+    → Wrote 4 after (hex_word (get_or words index 0)) new
+    → index < length words
+    → Wrote (5 * (index + 1)) old (each_word (take (index + 1) words)) new
+words_more words index before mark digits inside =
+    rw (each_word_more words index inside)
+    (within (wrote_then before (wrote_then mark digits)) (omega arith))
+
+pub words_end : {old new : Page} (words : List ℕ) (index : ℕ)
+    → Wrote (5 * index) old (each_word (take index words)) new
+    → index ≤ length words → length words ≤ index
+    → Wrote (5 * length words) old (each_word words) new
+words_end words index wrote inside all =
+    within (rw (take_all index words all) at wrote) (omega arith)
 
 -- ---- decimal: one digit more
 
-module _ (out : List ℕ) (at number : ℕ) where
-  pub digits_none : (places : ℕ) → places ≡ 0 → Wrote out at (decimal_by places number) out at
-  unfolding stored
-  digits_none places none =
-      record { is_stored = rw (none, no_places number, add-zero at); as_long = refl }
+pub digits_none : (page : Page) (places number : ℕ) → places ≡ 0
+    → Wrote places page (decimal_by places number) page
+digits_none page places number none = rw (none, no_places number) (nothing_wrote page)
 
-module _ {out : List ℕ} {at : ℕ} {after : List ℕ} {next : ℕ} where
-  pub digits_last : (places number : ℕ) → Wrote out at ((48 + number) ∷ []) after next
-      → (places ≡ 0 → ⊥) → number < 10 → Wrote out at (decimal_by places number) after next
+module _ {old new : Page} where
+  pub digits_last : (places number : ℕ) → Wrote 1 old ((48 + number % 10) ∷ []) new
+      → (places ≡ 0 → ⊥) → number < 10 → Wrote places old (decimal_by places number) new
   digits_last zero number wrote some below = absurd (some refl)
   digits_last (suc places) number wrote some below =
-      record {
-        is_stored = wrote.is_stored ∙ rw (one_digit places number below);
-        as_long = wrote.as_long;
-      }
+      let digit : number % 10 ≡ number = omega arith in
+      rw (one_digit places number below) (within (rw digit at wrote) (omega arith))
 
-  pub digits_more : (places number : ℕ) {between : List ℕ} {tens : ℕ}
-      → Wrote out at (decimal_by (places - 1) (number / 10)) between tens
-      → Wrote between tens ((48 + number % 10) ∷ []) after next
-      → (places ≡ 0 → ⊥) → 10 ≤ number
-      → Wrote out at (decimal_by places number) after next
-  digits_more zero number wrote wrote' some above = absurd (some refl)
-  digits_more (suc places) number {between} {tens} wrote wrote' some above =
+  pub digits_more : {between : Page} (places number : ℕ)
+      → Wrote (places - 1) old (decimal_by (places - 1) (number / 10)) between
+      → Wrote 1 between ((48 + number % 10) ∷ []) new
+      → (places ≡ 0 → ⊥) → 10 ≤ number → Wrote places old (decimal_by places number) new
+  digits_more zero number tens digit some above = absurd (some refl)
+  digits_more {between} (suc places) number tens digit some above =
       let fewer : suc places - 1 ≡ places = omega arith in
-      let before : Wrote out at (decimal_by places (number / 10)) between tens =
-      rw fewer at wrote in
-      let both : Wrote out at
-      (decimal_by places (number / 10) ++ ((48 + number % 10) ∷ [])) after next =
-      wrote_then before wrote' in
-      record {
-        is_stored = both.is_stored ∙ rw (tens_and_digit places number above);
-        as_long = both.as_long;
-      }
+      let before : Wrote places old (decimal_by places (number / 10)) between = rw fewer at tens in
+      rw (tens_and_digit places number above) (within (wrote_then before digit) (omega arith))

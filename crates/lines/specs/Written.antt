@@ -1,5 +1,5 @@
 -- What a writer leaves of the buffer that it is lent. Definitions only. Assumes nothing.
-use Rattle.std.specs.Prelude.{◌≡◌, cond, List, ℕ, ◌+◌, ◌-◌, leb, length}
+use Rattle.std.specs.Prelude.{cond, List, ℕ, ◌+◌, ◌-◌, leb, length}
 use Rattle.std.proofs.lemmas.List.Edits.{sets}
 use Rattle.lines.specs.Lines.{status_line, given_line}
 
@@ -45,9 +45,3 @@ most_given = 33
 unfoldable pub given_written : List ℕ → ℕ → List ℕ → Put
 given_written out at words =
     cond (leb (length words) most_given) (line_written out at (given_line words)) (put at out)
-
--- a part of a line is stored, for the functions that are given the room they need; the buffer
--- stays as long as it was
-pub record Wrote (out : List ℕ) (at : ℕ) (text after : List ℕ) (next : ℕ) : Type 0 where
-  pub is_stored : put next after ≡ stored out at text
-  pub as_long : length after ≡ length out

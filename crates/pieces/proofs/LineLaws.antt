@@ -2,43 +2,31 @@
 -- Assumes nothing.
 use mathlib.Core.Path.{◌≡◌}
 use mathlib.Core.Bool.{Bool, true, false, cond}
-use mathlib.Core.List.{List, []}
-use Prim.Native.Nat.{ℕ, ◌+◌, ◌-◌, ◌≤◌, ◌<◌}
-use native.Mathlib.Decide.{dec_le}
+use Prim.Native.Nat.{ℕ, ◌≤◌, ◌<◌}
 use native.Mathlib.Omega.{arith}
 use lib.Dec.{eqb}
 use lib.ListN.{length}
 use borrow.Author.Tests.{ne_eqb}
 use Rattle.lines.specs.Lines.{end_line, refusal_line}
-use Rattle.lines.specs.Written.{put, stored, line_room, line_written}
+use Rattle.lines.specs.Page.{Leaves, line_on}
+use Rattle.lines.specs.declared.Page.{Page}
+use Rattle.lines.specs.Written.{line_room}
 use Rattle.lines.proofs.Lengths.{length_end_line, length_refusal_line}
-use Rattle.lines.proofs.WrittenLaws.{in_room, out_of_room}
 use Rattle.pieces.specs.LastLine.{last_line}
-
--- nothing is written of no text
-pub nothing_written : (out : List ℕ) (at : ℕ) → put at out ≡ line_written out at []
-unfolding stored
-nothing_written out at =
-    elim (dec_le line_room (length out - at)) [
-      | yes enough ↦
-          let same : at + 0 ≡ at = omega arith in
-          rw (in_room line_room out at [] enough, same)
-      | no short ↦ rw (out_of_room line_room out at [] (omega arith))
-    ]
 
 -- ---- as it is printed
 
-module _ (out : List ℕ) (at number fields offset next : ℕ) (after : List ℕ) where
-  pub end_line_lem : number ≡ 0 → put next after ≡ line_written out at (end_line fields)
-      → put next after ≡ line_written out at (last_line number fields offset)
+module _ (old new : Page) (number fields offset : ℕ) where
+  pub end_line_lem : number ≡ 0 → Leaves old new (line_on old (end_line fields))
+      → Leaves old new (line_on old (last_line number fields offset))
   unfolding last_line
-  end_line_lem is is_put = rw is is_put
+  end_line_lem is printed = rw is printed
 
   pub refusal_line_lem : (number ≡ 0 → ⊥)
-      → put next after ≡ line_written out at (refusal_line number offset)
-      → put next after ≡ line_written out at (last_line number fields offset)
+      → Leaves old new (line_on old (refusal_line number offset))
+      → Leaves old new (line_on old (last_line number fields offset))
   unfolding last_line
-  refusal_line_lem is is_put = rw (ne_eqb number 0 is) is_put
+  refusal_line_lem is printed = rw (ne_eqb number 0 is) printed
 
 pub ruleset last_lines = (end_line_lem, refusal_line_lem)
 

@@ -9,17 +9,9 @@ pub fn keep_rest(window: &mut [u8], at: usize, end: usize) -> usize
     ensures { put result window.new
         ≡ kept_rest window.old at end }
 {
-    if window.len() < end {
+    if window.len() < end || end <= at {
         return 0;
     }
-    if end <= at {
-        return 0;
-    }
-    let count = end - at;
-    let mut byte: usize = 0;
-    while byte < count {
-        window[byte] = window[at + byte];
-        byte += 1;
-    }
-    count
+    window.copy_within(at..end, 0);
+    end - at
 }

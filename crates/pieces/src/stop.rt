@@ -1,13 +1,14 @@
 // Why a call over a window of a recording stops, and the last line that it prints then.
 ghost use Rattle.std.specs.Prelude.{◌≡◌};
-ghost use Rattle.lines.specs.Written.{put, line_written};
+ghost use Rattle.lines.specs.Page.{Leaves, line_on};
+ghost use Rattle.lines.specs.Written.{put};
 ghost use Rattle.pieces.specs.LastLine.{last_line};
 ghost use Rattle.pieces.specs.AsCoded.Window.{is_going, stopped, stopped_at};
 
-use lines;
+use lines::Page;
 
 // Why a call stopped: it has not, it needs more bytes, its buffer is full, or the run is over.
-#[derive(Clone, Copy)]
+#[derive(Clone, Copy, PartialEq, Eq)]
 pub enum Stop {
     Going,
     Hungry,
@@ -26,28 +27,25 @@ impl Stop {
     pub fn is_going(self) -> bool
         ensures { result ≡ is_going self }
     {
-        match self {
-            Stop::Going => true,
-            Stop::Hungry => false,
-            Stop::Full => false,
-            Stop::Over => false,
-        }
+        self == Stop::Going
     }
 }
 
 // END with the fields taken, or the number of the refusal with the offset of its field.
-fn put_last(out: &mut [u8], at: usize, number: u8, fields: u64, offset: u64) -> usize
-    ensures { put result out.new
-        ≡ line_written out.old at (last_line number fields offset) }
+fn put_last(page: &mut Page, number: u8, fields: u64, offset: u64)
+    ensures { Leaves page.old page.new
+        (line_on page.old (last_line number fields offset)) }
 {
     if number == 0 {
-        return lines::end_line(out, at, fields);
+        return page.end_line(fields);
     }
-    lines::refusal_line(out, at, number, offset)
+    page.refusal_line(number, offset);
 }
 
 // No field is taken, by the number of a refusal or 0 for the end of the bytes: more bytes are
-// needed or, where these are the last, the last line is printed.
+// needed or, where these are the last, the last line is printed. The place alone is given and
+// answered, since a call over a window keeps it beside the run. The number is any byte, no
+// `Refusal`: callers may name what they will.
 pub fn stop_at(
     out: &mut [u8],
     at: usize,
@@ -59,6 +57,7 @@ pub fn stop_at(
     ensures { stopped (put result.put out.new) result.stop
         ≡ stopped_at number last fields offset out.old at }
 {
+    // one value, so that the test is one way of the code
     let hungry = !last & ((number == 0) | (number == 5));
     if hungry {
         return Stopped {
@@ -66,9 +65,10 @@ pub fn stop_at(
             stop: Stop::Hungry,
         };
     }
-    let next = put_last(out, at, number, fields, offset);
+    let mut page = Page { out, at };
+    put_last(&mut page, number, fields, offset);
     Stopped {
-        put: next,
+        put: page.at,
         stop: Stop::Over,
     }
 }

@@ -30,7 +30,7 @@ fn turn<R: Runner>(
         ≡ turn R.course window.now last
         (going_at (R.run_of run.old ram.old) at put out.old) }
 {
-    if lines::left_from(out.len(), put) < lines::LINE_ROOM {
+    if out.len().saturating_sub(put) < lines::LINE_ROOM {
         return Passed {
             at,
             put,
@@ -75,7 +75,7 @@ pub fn run_window<R: Runner>(
     };
     let mut turns = u64::MAX;
     while turns > 0 && passed.stop.is_going() {
-        let room = lines::left_from(out.len(), passed.put);
+        let room = out.len().saturating_sub(passed.put);
         let row = run.take_row(ram, window, passed.at, room, turns);
         passed = turn(run, ram, window, out, last, row.at, passed.put);
         turns = row.left - 1;

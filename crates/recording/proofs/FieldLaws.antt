@@ -1,4 +1,5 @@
--- The laws of `specs/Field.antt`, on each way that the code takes. Assumes nothing.
+-- The laws of `specs/Field.antt`: a value that is there has the bytes of its tag, and what holds of
+-- every number by which a field is refused. Assumes nothing.
 use mathlib.Core.Path.{◌≡◌}
 use mathlib.Core.Bool.{Bool, cond, not}
 use mathlib.Core.List.{List}
@@ -23,7 +24,7 @@ use Rattle.recording.specs.declared.field.Field.TheVariants.{
   SetFlags,
 }
 use Rattle.recording.specs.Tag.{length_fits}
-use Rattle.recording.specs.Field.{field_at, value_refusal, ValueThere}
+use Rattle.recording.specs.Field.{value_refusal, ValueThere}
 use Rattle.recording.proofs.TagLaws.{write_size}
 
 -- ---- a value that is there has the bytes of its tag
@@ -54,26 +55,7 @@ module _ {bytes : List ℕ} {tag : Tag} {value size : ℕ}
   unfolding length_fits
   flags_there is = omega (arith, eqb-true size 1 (rw is at there.fits), there.inside)
 
-pub ruleset theres = (
-  setup_there,
-  word_there_lem,
-  silence_there,
-  address_there,
-  table_there,
-  flags_there,
-)
-
--- the tag is the one that a `match` found
-pub field_of_known : (field : Field) (bytes : List ℕ) (tag known : Tag) (value size : ℕ)
-    → tag ≡ known → field ≡ field_at bytes known value size → field ≡ field_at bytes tag value size
-field_of_known field bytes tag known value size is same = rw is same
-
 -- ---- the number of a field's refusal
-
--- the field is the one that a `match` found
-pub refusal_of_known : (number blocks : ℕ) (field known : Field) → field ≡ known
-    → number ≡ value_refusal blocks known → number ≡ value_refusal blocks field
-refusal_of_known number blocks field known is same = rw is same
 
 -- what holds of 0, 2, 3 and 8 holds of every field's number
 pub by_refusal : (Claim : ℕ → Type 0) → Claim 0 → Claim 2 → Claim 3 → Claim 8

@@ -1,7 +1,7 @@
 -- The laws of `specs/AsCoded/Found.antt`: what is found on each way that the code takes, and that a
 -- word field which is found is what the reader reads there (`found_is_read`). Assumes nothing.
 use mathlib.Core.Path.{◌≡◌, refl, sym, subst}
-use mathlib.Core.Bool.{Bool, true, false, ◌&&◌}
+use mathlib.Core.Bool.{Bool, true, false, cond, ◌&&◌}
 use mathlib.Core.List.{List}
 use Rattle.std.proofs.Common.{Option, Some, None}
 use Prim.Native.Nat.{ℕ, ◌+◌, ◌-◌, ◌*◌, ◌≤◌, ◌<◌}
@@ -10,15 +10,8 @@ use lib.Dec.{eqb, leb, ltb}
 use lib.ListN.{length, get_or, drop, length-drop}
 use lib.Seq.{take_all, get_or-drop}
 use Rattle.std.specs.List.{slice_range}
-use borrow.Author.Tests.{
-  eqb-true,
-  eq-eqb,
-  ne_eqb,
-  leb-true,
-  le-leb,
-  lt-leb,
-  le-ltb,
-}
+use Rattle.std.specs.Bool.{then_some}
+use borrow.Author.Tests.{eqb-true, ne_eqb, leb-true, le-leb, lt-leb, le-ltb}
 use Rattle.rules.proofs.Choices.{by_test}
 use Rattle.rules.proofs.Halves.{first_of_both, second_of_both}
 use Rattle.bus.specs.Limits.{all_marks, are_marks}
@@ -63,68 +56,28 @@ module _ (bytes : List ℕ) (place marks : ℕ) where
           let same : place + 0 ≡ place = omega arith in
           rw same at (byte 0)
 
-      pub other_tag : (get_or rest 0 0 ≡ word_tag → ⊥) → None ≡ word_found bytes place marks
+      -- the four bytes before the value are tested at once
+      pub found_if : (value : ℕ) (answer : Option Found)
+          → value ≡ get_or rest 4 0 * 256 + get_or rest 5 0
+          → answer
+          ≡ then_some
+          (eqb (get_or rest 0 0) word_tag && eqb (get_or rest 1 0) 0 && eqb (get_or rest 2 0) 7
+          && eqb (get_or rest 3 0) marks) (found value (place + 10))
+          → answer ≡ word_found bytes place marks
       unfolding word_found
-      other_tag other = rw (long, first, ne_eqb (get_or rest 0 0) word_tag other)
+      found_if value answer is_value is =
+          let after : place + 4 + 1 ≡ place + 5 = omega arith in
+          rw (is, long, first, byte 1, byte 2, byte 3, after, byte 4, byte 5, is_value)
+          (by_choice _
+          (eqb (get_or rest 0 0) word_tag && eqb (get_or rest 1 0) 0
+          && eqb (get_or rest 2 0) 7 && eqb (get_or rest 3 0) marks))
+        where
+          by_choice : (word : Found) (test : Bool)
+              → then_some test word ≡ cond test (Some word) None
+          by_choice word true = refl
+          by_choice word false = refl
 
-      module _ (tag : get_or rest 0 0 ≡ word_tag) where
-        pub other_high : (get_or rest 1 0 ≡ 0 → ⊥) → None ≡ word_found bytes place marks
-        unfolding word_found
-        other_high other = rw (long, first, tag, byte 1, ne_eqb (get_or rest 1 0) 0 other)
-
-        module _ (high : get_or rest 1 0 ≡ 0) where
-          pub other_low : (get_or rest 2 0 ≡ 7 → ⊥) → None ≡ word_found bytes place marks
-          unfolding word_found
-          other_low other =
-              rw (long, first, tag, byte 1, high, byte 2, ne_eqb (get_or rest 2 0) 7 other)
-
-          module _ (low : get_or rest 2 0 ≡ 7) where
-            pub other_marks : (get_or rest 3 0 ≡ marks → ⊥) → None ≡ word_found bytes place marks
-            unfolding word_found
-            other_marks other =
-                rw (
-                  long,
-                  first,
-                  tag,
-                  byte 1,
-                  high,
-                  byte 2,
-                  low,
-                  byte 3,
-                  ne_eqb (get_or rest 3 0) marks other,
-                )
-
-            pub found_word : (value : ℕ) → get_or rest 3 0 ≡ marks
-                → value ≡ get_or rest 4 0 * 256 + get_or rest 5 0
-                → Some (found value (place + 10)) ≡ word_found bytes place marks
-            unfolding word_found
-            found_word value marked is =
-                let after : place + 4 + 1 ≡ place + 5 = omega arith in
-                rw (
-                  long,
-                  first,
-                  tag,
-                  byte 1,
-                  high,
-                  byte 2,
-                  low,
-                  byte 3,
-                  eq-eqb (get_or rest 3 0) marks marked,
-                  after,
-                  byte 4,
-                  byte 5,
-                  is,
-                )
-
-pub ruleset finding = (
-  found_past,
-  found_short,
-  other_tag,
-  other_high,
-  other_low,
-  other_marks,
-  found_word,
-)
+pub ruleset finding = (found_past, found_short, found_if)
 
 -- ---- what is found is read
 

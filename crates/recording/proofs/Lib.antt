@@ -1,7 +1,7 @@
 -- The mathematics of recordings. Read `Theorems`: what is proved.
 --     Theorems       the statements, by name
 --     TagLaws        the sizes that fit a tag
---     FieldLaws      what a field holds on each way that the code takes
+--     FieldLaws      the bytes of a value, and the numbers of a field's refusal
 --     ReadingLaws    the reader's order on each way that the code takes
 --     WordsLaws      the words of a host write, one by one
 --     TakenLaws      what a reading tells: where a field ends, whom a refusal names

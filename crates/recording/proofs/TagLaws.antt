@@ -1,6 +1,6 @@
 -- The laws of `specs/Tag.antt`: the sizes that fit each tag. Assumes nothing.
 use mathlib.Core.Path.{◌≡◌}
-use mathlib.Core.Bool.{Bool, true, ◌&&◌}
+use mathlib.Core.Bool.{true, ◌&&◌}
 use Prim.Native.Nat.{ℕ, ◌%◌, ◌≤◌}
 use native.Mathlib.Omega.{arith}
 use lib.Dec.{eqb, leb}
@@ -17,11 +17,6 @@ use Rattle.recording.specs.declared.tag.Tag.TheVariants.{
   SetFlags,
 }
 use Rattle.recording.specs.Tag.{length_fits}
-
--- the tag is the one that a `match` found
-pub fits_of_known : (fits : Bool) (tag known : Tag) (size : ℕ) → tag ≡ known
-    → fits ≡ length_fits known size → fits ≡ length_fits tag size
-fits_of_known fits tag known size is same = rw is same
 
 -- 2 + 2k, k 1 to 64
 pub record WriteSize (size : ℕ) : Type 0 where

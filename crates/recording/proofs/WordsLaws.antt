@@ -44,7 +44,9 @@ module _ (ram bytes : List ℕ) (address first count : ℕ) where
       let from : address + 0 ≡ address = omega arith in
       let start : first + 2 * 0 ≡ first = omega arith in
       let all : count - 0 ≡ count = omega arith in
-      record { leads = words_written ram bytes address first count few there ∙ rw (from, start, all) }
+      record {
+        leads = words_written ram bytes address first count few there ∙ rw (from, start, all);
+      }
 
 module _ {wanted ram bytes : List ℕ} {address first count word : ℕ}
     (writing : Writing wanted ram bytes address first count word) where
@@ -64,8 +66,3 @@ module _ {wanted ram bytes : List ℕ} {address first count word : ℕ}
   writing_past ram' more past same =
       let value : ℕ = word_at bytes (first + 2 * word) in
       writing_less value ram' more refl (same ∙ sym (set_out ram (address + word) value past))
-
-  pub writing_none : count ≤ word → ram ≡ wanted
-  writing_none all =
-      let none : count - word ≡ 0 = omega arith in
-      sym (writing.leads ∙ rw none)

@@ -19,13 +19,15 @@ pub struct Found {
 pub fn find_word(bytes: &[u8], place: usize, marks: u8) -> Option<Found>
     ensures { result ≡ word_found bytes.now place marks }
 {
-    match bytes.get(place..)? {
-        [WORD_TAG, 0, 7, found, high, low, _, _, _, _, ..] if *found == marks => Some(Found {
-            value: bytes::of_bytes(*high, *low),
-            next: place + 10,
-        }),
-        _ => None,
-    }
+    let [tag, long, short, found, high, low, _, _, _, _, ..] = bytes.get(place..)? else {
+        return None;
+    };
+    // one test of four bytes: `&&`, or the numbers in the pattern, would be four
+    let starts = (*tag == WORD_TAG) & (*long == 0) & (*short == 7) & (*found == marks);
+    starts.then_some(Found {
+        value: bytes::of_bytes(*high, *low),
+        next: place + 10,
+    })
 }
 
 // The words of a field that writes, 64 at the most, go from the bytes to a memory, as far as it

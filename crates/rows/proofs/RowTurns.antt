@@ -16,7 +16,7 @@ use Rattle.pieces.specs.LastLine.{counted}
 use Rattle.pieces.specs.Course.{Course}
 use Rattle.pieces.specs.AsCoded.Window.{Passed, passing, turn, turns}
 use Rattle.pieces.specs.AsCoded.Runner.{going_at, TurnsTaken}
-use Rattle.pieces.proofs.LineLaws.{nothing_written}
+use Rattle.lines.proofs.LineLaws.{nothing_written}
 use Rattle.pieces.proofs.TurnLaws.{turn_by, one_turn}
 use Rattle.rows.specs.declared.Row.{Row}
 use Rattle.rows.specs.declared.Taken.{Taken}
@@ -70,7 +70,7 @@ module _ {Run Machine : Type 0} {course : Course Run} {run : Machine → ℕ →
     word_is_turn more at old fields offset value next wants is =
         sym (turn_by course window last (among at old fields offset) enough
         (hearing.is_met line more old fields offset window at value next wants is))
-        ∙ rw (← nothing_written out put)
+        ∙ rw (← nothing_written line_room out put)
 
     -- behind so many words
     abbrev behind_all : List Word → ℕ → Machine → ℕ → ℕ → Passed Run

@@ -62,8 +62,8 @@ module _ (bytes : List ℕ) (line : Bool) (block : Block) (end : ℕ) where
         let none : end - cell ≡ 0 = omega (arith, all) in
         sym (behind_none block end cell at ram) ∙ (rw none at so_far.leads)
 
-    module _ (marks : ℕ) (there : Option Found) (is_marks : marks ≡ marks_on line) (more : cell < end)
-        (is_found : there ≡ word_found bytes at marks) where
+    module _ (marks : ℕ) (there : Option Found) (is_marks : marks ≡ marks_on line)
+        (more : cell < end) (is_found : there ≡ word_found bytes at marks) where
       fewer : end - cell ≡ suc (end - (cell + 1))
       fewer = omega (arith, more)
 

@@ -1,33 +1,34 @@
 -- The laws of `specs/Cells.antt`: the loop over the card's cells. Assumes nothing.
-use mathlib.Core.Path.{◌≡◌, refl, sym, ◌∙◌}
-use mathlib.Core.List.{List, [], ◌∷◌, ◌++◌}
-use Prim.Native.Nat.{ℕ, suc, ◌+◌, ◌/◌, ◌%◌, ◌≤◌, ◌<◌}
-use native.Mathlib.Numerals.{add-one}
+use mathlib.Core.Path.{◌≡◌}
+use mathlib.Core.List.{List, [], ◌∷◌, ◌++◌, append_assoc, append-nil}
+use Prim.Native.Nat.{ℕ, ◌+◌, ◌/◌, ◌%◌, ◌≤◌, ◌<◌}
+use native.Mathlib.Nat.{add-zero}
 use native.Mathlib.Omega.{arith}
-use lib.ListN.{length, get_or, drop, drop_of_length-le}
-use lib.Seq.{drop-cons}
+use lib.ListN.{length, get_or, take, length-take}
+use lib.Seq.{take_all}
 use borrow.Author.Tests.{ne_eqb}
+use Rattle.std.proofs.lemmas.List.{take_more}
 use Rattle.lines.specs.Digits.{hex_word}
 use Rattle.lines.specs.Lines.{blank, newline}
-use Rattle.lines.specs.Written.{Put, put}
-use Rattle.shown.specs.Text.{fitted, Fits}
+use Rattle.lines.specs.declared.Page.{Page}
+use Rattle.shown.specs.Text.{Fits}
 use Rattle.shown.specs.Cells.{cell_text, cell_lines}
-use Rattle.shown.proofs.TextLaws.{fitted_then, fits_then, fitted_nothing}
+use Rattle.shown.proofs.TextLaws.{fits_then, nothing_fits}
 
 -- ---- a cell
 
-pub zero_fits : (out : List ℕ) (at address word : ℕ) → word ≡ 0
-    → Fits out at (cell_text address word) out at
-zero_fits out at address word is = rw is (record { is_fitted = sym (fitted_nothing out at) })
+pub zero_fits : (page : Page) (address word : ℕ) → word ≡ 0
+    → Fits page (cell_text address word) page
+zero_fits page address word is = rw is (nothing_fits page)
 
 -- the parts of a line in turn
-pub cell_fits : {out out₁ out₂ out₃ after : List ℕ} {at at₁ at₂ at₃ next : ℕ} (address word : ℕ)
+pub cell_fits : {old first second third new : Page} (address word : ℕ)
     → (word ≡ 0 → ⊥)
-    → Fits out at (hex_word address) out₁ at₁ → Fits out₁ at₁ (blank ∷ []) out₂ at₂
-    → Fits out₂ at₂ (hex_word word) out₃ at₃ → Fits out₃ at₃ (newline ∷ []) after next
-    → Fits out at (cell_text address word) after next
-cell_fits address word other first second third fourth =
-    rw (ne_eqb word 0 other) (fits_then (fits_then (fits_then first second) third) fourth)
+    → Fits old (hex_word address) first → Fits first (blank ∷ []) second
+    → Fits second (hex_word word) third → Fits third (newline ∷ []) new
+    → Fits old (cell_text address word) new
+cell_fits address word other digits between more end =
+    rw (ne_eqb word 0 other) (fits_then (fits_then (fits_then digits between) more) end)
 
 -- four digits show 16 bits
 sixteen_bits : (number : ℕ) → hex_word (number % 65536) ≡ hex_word number
@@ -41,41 +42,43 @@ sixteen_bits number =
 
 -- ---- cell after cell
 
--- the cells below `address` are put: the rest takes `out` to what is wanted
-pub record CellsLeft (wanted : Put) (out : List ℕ) (next : ℕ) (ram : List ℕ) (address : ℕ)
-    : Type 0 where
-  pub leads : wanted ≡ fitted out next (cell_lines address (drop address ram))
-
-pub cells_all : (out : List ℕ) (at : ℕ) (ram : List ℕ)
-    → CellsLeft (fitted out at (cell_lines 0 ram)) out at ram 0
-cells_all out at ram = record { leads = refl }
-
-cells_more : (address word : ℕ) (words : List ℕ)
-    → cell_lines address (word ∷ words) ≡ cell_text address word ++ cell_lines (address + 1) words
+cells_append : (address : ℕ) (words more : List ℕ)
+    → cell_lines address (words ++ more)
+    ≡ cell_lines address words ++ cell_lines (address + length words) more
 unfolding cell_lines
-cells_more address word words = refl
+cells_append address [] more = rw (add-zero address)
+cells_append address (word ∷ words) more =
+    let next : address + 1 + length words ≡ address + length (word ∷ words) = omega arith in
+    rw (
+      cells_append (address + 1) words more,
+      next,
+      append_assoc (cell_text address word) (cell_lines (address + 1) words) (cell_lines _ more),
+    )
 
-module _ {wanted : Put} {out : List ℕ} {next : ℕ} {ram : List ℕ} {address : ℕ}
-    (left : CellsLeft wanted out next ram address) where
-  pub cells_less : {after : List ℕ} {next' : ℕ}
-      → Fits out next (cell_text (address % 65536) (get_or ram address 0)) after next'
-      → address < length ram → CellsLeft wanted after next' ram (address + 1)
-  cells_less {after} {next'} fits inside =
-      let line : Fits out next (cell_text address (get_or ram address 0)) after next' =
-      rw (sixteen_bits address) at fits in
-      record {
-        leads =
-            left.leads
-            ∙ rw (
-              drop-cons ram address 0 inside,
-              cells_more address (get_or ram address 0) (drop (suc address) ram),
-              ← add-one address,
-            )
-            (sym (fitted_then line (cell_lines (address + 1) (drop (address + 1) ram))));
-      }
+cells_one : (address word : ℕ) → cell_lines address (word ∷ []) ≡ cell_text address word
+unfolding cell_lines
+cells_one address word = append-nil (cell_text address word)
 
-  pub cells_none : length ram ≤ address → put next out ≡ wanted
-  unfolding cell_lines
-  cells_none all =
-      sym (left.leads
-      ∙ rw (drop_of_length-le ram {i = address} all) (fitted_nothing out next))
+pub cells_none : (page : Page) (ram : List ℕ) → Fits page (cell_lines 0 (take 0 ram)) page
+unfolding cell_lines
+cells_none page ram = nothing_fits page
+
+-- one cell more
+pub cells_more : {old between new : Page} (ram : List ℕ) (address : ℕ)
+    → Fits old (cell_lines 0 (take address ram)) between
+    → Fits between (cell_text (address % 65536) (get_or ram address 0)) new
+    → address < length ram → Fits old (cell_lines 0 (take (address + 1) ram)) new
+cells_more ram address before cell inside =
+    let place : 0 + length (take address ram) ≡ address = omega (arith, length-take address ram) in
+    rw (
+      take_more ram address 0 inside,
+      cells_append 0 (take address ram) (get_or ram address 0 ∷ []),
+      place,
+      cells_one address (get_or ram address 0),
+    )
+    (fits_then before (rw (sixteen_bits address) at cell))
+
+pub cells_end : {old new : Page} (ram : List ℕ) (address : ℕ)
+    → Fits old (cell_lines 0 (take address ram)) new → length ram ≤ address
+    → Fits old (cell_lines 0 ram) new
+cells_end ram address fits all = rw (take_all address ram all) at fits

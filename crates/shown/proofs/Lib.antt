@@ -1,12 +1,10 @@
 -- The mathematics of texts in a lent buffer. Read `TextLaws` first.
 --     TextLaws       texts put one behind the other are put at once
---     ItemLaws       a mark is put as a number
 --     CellLaws       the loop over the card's cells
 --     RoomLaws       how long a text is at the most; with room it is put whole
 --     Determined     each public contract allows one outcome alone
 --     Examples       a text that is cut, by computation
 pub mod TextLaws
-pub mod ItemLaws
 pub mod CellLaws
 pub mod RoomLaws
 pub mod Determined

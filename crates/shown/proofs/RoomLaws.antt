@@ -13,6 +13,7 @@ use Rattle.bits.specs.Bit.{weight_of}
 use Rattle.lines.specs.Digits.{hex_byte, hex_word, decimal}
 use Rattle.lines.specs.Lines.{blank, newline}
 use Rattle.lines.specs.Written.{Put, stored}
+use Rattle.lines.specs.declared.Page.{Page}
 use Rattle.lines.proofs.DecimalLaws.{length_decimal}
 use Rattle.lines.proofs.Lengths.{length_hex_byte, length_hex_word}
 use Rattle.lines.proofs.WrittenLaws.{in_room, take_written}
@@ -81,12 +82,15 @@ of_cells address (word ∷ words) =
 -- ---- a buffer
 
 -- a text that has room is put whole
-pub put_whole : (out text after : List ℕ) (next : ℕ) → Fits out 0 text after next
-    → length text ≤ length out → take next after ≡ text
+pub put_whole : (old : Page) (text : List ℕ) (new : Page) → Fits old text new → old.at ≡ 0
+    → length text ≤ length old.out.now → take new.at new.out.now ≡ text
 unfolding fitted
-put_whole out text after next fits enough =
+put_whole old text new fits start enough =
     ap (λ (left : Put). take left.next left.bytes)
     (fits.is_fitted
-    ∙ ap (λ (all : List ℕ). stored out 0 all) (take_all (length out - 0) text (omega arith))
-    ∙ sym (in_room (length text) out 0 text (omega arith)))
-    ∙ take_written (length text) out 0 text (omega arith) (omega arith) (le_refl (length text))
+    ∙ ap (λ (all : List ℕ). stored old.out.now old.at all)
+    (take_all (length old.out.now - old.at) text (omega arith))
+    ∙ sym (in_room (length text) old.out.now old.at text (omega arith)))
+    ∙ take_written (length text) old.out.now old.at text (omega arith) (omega arith)
+    (le_refl (length text))
+    ∙ rw start

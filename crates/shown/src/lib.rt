@@ -1,6 +1,5 @@
 // Numbers, words and cells as text, for the programs that show what a run left. Read `text` first:
-// bytes and digits into a lent buffer. `item` is a name with its value, `cells` the lines of card
-// memory.
+// bytes and values onto a page. `item` is a name with its value, `cells` the lines of card memory.
 #![tactic(auto)]
 
 pub mod cells;

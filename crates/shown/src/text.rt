@@ -1,58 +1,81 @@
-// Texts into a lent buffer, from a place on: as many bytes as there is room for. Every function
-// answers the next place, so texts are put one behind the other with no thought of room.
-ghost use Rattle.std.specs.Prelude.{[], ◌∷◌};
+// Texts onto a page: as many bytes as there is room for. The place goes on with them, so texts are
+// put one behind the other with no thought of room.
+ghost use Rattle.std.specs.Prelude.{List, ℕ};
 ghost use Rattle.lines.specs.Digits.{hex_byte, hex_word, decimal};
 ghost use Rattle.shown.specs.Text.{Fits};
+ghost use Rattle.shown.specs.Item.{mark_text};
 
-use lines;
+use bits;
+use lines::{DECIMAL_PLACES, Page};
 
 // Bytes as they are.
-pub fn put_text(out: &mut [u8], at: usize, text: &[u8]) -> usize
-    ensures { Fits out.old at text.now
-        out.new result }
+pub fn put_text(page: &mut Page, text: &[u8])
+    ensures { Fits page.old text.now page.new }
 {
-    let room = lines::left_from(out.len(), at);
-    if room < text.len() {
-        return lines::text(out, at, &text[0..room]);
-    }
-    lines::text(out, at, text)
+    let room = page.out.len().saturating_sub(page.at);
+    page.text(&text[..text.len().min(room)]);
 }
 
-// One byte.
-pub fn put_byte(out: &mut [u8], at: usize, byte: u8) -> usize
-    ensures { Fits out.old at (byte ∷ [])
-        out.new result }
-{
-    let text: [u8; 1] = [byte];
-    put_text(out, at, &text)
+// A value that has a text.
+pub trait Shown {
+    ghost text_of: { Self → List ℕ };
+
+    fn put(&self, page: &mut Page)
+        ensures { Fits page.old (text_of self.now) page.new };
 }
+
+// A number in hex: two digits of a byte, four of a word, capitals.
+#[derive(Clone, Copy)]
+pub struct Hex<T>(pub T);
 
 // A decimal number with no leading zeros.
-pub fn put_decimal(out: &mut [u8], at: usize, number: u16) -> usize
-    ensures { Fits out.old at (decimal number)
-        out.new result }
-{
-    let mut digits: [u8; 20] = [0; 20];
-    let end = lines::decimal(&mut digits, 0, number as u64);
-    put_text(out, at, &digits[0..end])
+impl Shown for u16 {
+    ghost text_of = { λ number. decimal number };
+
+    fn put(&self, page: &mut Page) {
+        let mut digits: [u8; DECIMAL_PLACES] = [0; DECIMAL_PLACES];
+        let mut own = Page {
+            out: &mut digits,
+            at: 0,
+        };
+        own.decimal(*self as u64);
+        put_text(page, own.written());
+    }
 }
 
-// Two hex digits, capitals.
-pub fn put_hex_byte(out: &mut [u8], at: usize, byte: u8) -> usize
-    ensures { Fits out.old at (hex_byte byte)
-        out.new result }
-{
-    let mut digits: [u8; 2] = [0; 2];
-    lines::hex_byte(&mut digits, 0, byte);
-    put_text(out, at, &digits)
+// A mark is 0 or 1.
+impl Shown for bool {
+    ghost text_of = { λ mark. mark_text mark };
+
+    fn put(&self, page: &mut Page) {
+        bits::weigh(*self, 1).put(page);
+    }
 }
 
-// Four hex digits, capitals.
-pub fn put_hex_word(out: &mut [u8], at: usize, word: u16) -> usize
-    ensures { Fits out.old at (hex_word word)
-        out.new result }
-{
-    let mut digits: [u8; 4] = [0; 4];
-    lines::hex_word(&mut digits, 0, word);
-    put_text(out, at, &digits)
+impl Shown for Hex<u8> {
+    ghost text_of = { λ byte. hex_byte byte.0 };
+
+    fn put(&self, page: &mut Page) {
+        let mut digits: [u8; 2] = [0; 2];
+        let mut own = Page {
+            out: &mut digits,
+            at: 0,
+        };
+        own.hex_byte(self.0);
+        put_text(page, own.written());
+    }
+}
+
+impl Shown for Hex<u16> {
+    ghost text_of = { λ word. hex_word word.0 };
+
+    fn put(&self, page: &mut Page) {
+        let mut digits: [u8; 4] = [0; 4];
+        let mut own = Page {
+            out: &mut digits,
+            at: 0,
+        };
+        own.hex_word(self.0);
+        put_text(page, own.written());
+    }
 }

@@ -5,10 +5,10 @@ use std::io::Read;
 use std::marker::Model;
 
 // The window has so many bytes, and so has the buffer for the lines.
-pub const BUFFER_BYTES: usize = 65536;
+pub(crate) const BUFFER_BYTES: usize = 65536;
 
 #[derive(Drop)]
-pub struct Window {
+pub(crate) struct Window {
     bytes: [u8; BUFFER_BYTES],
     // so many of them count
     have: usize,
@@ -35,7 +35,7 @@ impl Window {
     ghost use Rattle.stream.specs.Progress.{buffer_bytes};
     ghost use Rattle.stream.specs.AsCoded.Turns.{nothing_left, behind, ReadOn};
 
-    pub fn empty() -> Window
+    pub(crate) fn empty() -> Window
         ensures { result ≡ nothing_left }
     {
         Window {
@@ -45,28 +45,28 @@ impl Window {
         }
     }
 
-    pub fn bytes(&self) -> &[u8]
+    pub(crate) fn bytes(&self) -> &[u8]
         ensures same { result.now ≡ self.now.bytes }
         ensures few { length self.now.bytes ≤ buffer_bytes }
     {
         &self.bytes[..self.have]
     }
 
-    pub fn has_ended(&self) -> bool
+    pub(crate) fn has_ended(&self) -> bool
         ensures { result ≡ self.now.ended }
     {
         self.ended
     }
 
     // The bytes before a place are taken. The others move to the front.
-    pub fn take_to(&mut self, at: usize)
+    pub(crate) fn take_to(&mut self, at: usize)
         ensures { self.new ≡ behind at self.old }
     {
         self.have = pieces::keep_rest(&mut self.bytes, at, self.have);
     }
 
     // One more piece behind the bytes that are there. One of no bytes is the end of the input.
-    pub fn read<I: Read>(&mut self, input: &mut I) -> io::Result<()>
+    pub(crate) fn read<I: Read>(&mut self, input: &mut I) -> io::Result<()>
         ensures { OnOk result
             (ReadOn self.old self.new (I.remaining input.old) (I.remaining input.new)) }
     {

@@ -28,10 +28,12 @@ use Rattle.terminal.specs.declared.state.Answer.{Answer}
 use Rattle.terminal.specs.declared.state.Answer.TheVariants.{Replied, QueueWord}
 use Rattle.terminal.specs.declared.state.Reply.{Reply}
 use Rattle.terminal.specs.declared.state.Reply.TheVariants.{Silent, Status, Words, Last}
-use Rattle.lines.specs.Lines.{queue_line}
-use Rattle.lines.specs.Written.{Put, put, most_words, line_written, status_written}
+use Rattle.lines.specs.Lines.{queue_line, status_line}
+use Rattle.lines.specs.Page.{Leaves, line_on}
+use Rattle.lines.specs.Written.{Put, line_room, most_words, status_written}
+use Rattle.lines.specs.declared.Page.{Page}
+use Rattle.lines.proofs.LineLaws.{nothing_left}
 use Rattle.lines.proofs.WrittenLaws.{few_words}
-use Rattle.pieces.proofs.LineLaws.{nothing_written}
 use Rattle.tray.specs.Run.{reply_line, answer_line}
 
 -- ---- the line of a reply
@@ -54,44 +56,53 @@ few_sent ram block count = go (eqb number 0) refl where
       )
   go false is = omega arith
 
-module _ (out : List ℕ) (at : ℕ) (ram : List ℕ) (reply : Reply) where
+module _ (old : Page) (ram : List ℕ) (reply : Reply) where
   abbrev wanted : Put
-  wanted = line_written out at (reply_line ram reply)
+  wanted = line_on old (reply_line ram reply)
 
-  pub silent_line : reply ≡ Silent → put at out ≡ wanted
-  silent_line is = rw is (nothing_written out at)
+  pub silent_line : reply ≡ Silent → Leaves old old wanted
+  silent_line is = rw is (nothing_left line_room old)
 
-  module _ (next : ℕ) (after : List ℕ) where
+  -- of a few words, so that none is too many
+  few_line : (new : Page) (status : ℕ) (words : List ℕ) → length words ≤ most_words
+      → Leaves old new (status_written old.out.now old.at status words)
+      → Leaves old new (line_on old (status_line status words))
+  few_line new status words few printed =
+      rw (few_words old.out.now old.at status words few) at printed
+
+  module _ (new : Page) where
     pub status_line_lem : (status : ℕ) → reply ≡ Status status
-        → put next after ≡ status_written out at status [] → put next after ≡ wanted
-    status_line_lem status is is_put = rw (is, is_put) (few_words out at status [] (omega arith))
+        → Leaves old new (status_written old.out.now old.at status []) → Leaves old new wanted
+    status_line_lem status is printed = rw is (few_line new status [] (omega arith) printed)
 
     pub words_line : (status : ℕ) (block : Block) (count : ℕ) (words : List ℕ)
         → reply ≡ Words status block count
         → words ≡ sent_part card_blocks ram block count
-        → put next after ≡ status_written out at status words → put next after ≡ wanted
-    words_line status block count words is is_words is_put =
-        rw (is, is_put, is_words)
-        (few_words out at status (sent_part card_blocks ram block count) (few_sent ram block count))
+        → Leaves old new (status_written old.out.now old.at status words) → Leaves old new wanted
+    words_line status block count words is is_words printed =
+        rw is
+        (few_line new status (sent_part card_blocks ram block count) (few_sent ram block count)
+        (rw is_words at printed))
 
     pub last_line : (status command : ℕ) → reply ≡ Last status command
-        → put next after ≡ status_written out at status (command ∷ []) → put next after ≡ wanted
-    last_line status command is is_put =
-        rw (is, is_put) (few_words out at status (command ∷ []) (omega arith))
+        → Leaves old new (status_written old.out.now old.at status (command ∷ []))
+        → Leaves old new wanted
+    last_line status command is printed =
+        rw is (few_line new status (command ∷ []) (omega arith) printed)
 
 pub ruleset reply_lines = (silent_line, status_line_lem, words_line, last_line)
 
 -- ---- the line of an answer
 
-module _ (out : List ℕ) (at : ℕ) (ram : List ℕ) (answer : Answer) (next : ℕ) (after : List ℕ) where
+module _ (old new : Page) (ram : List ℕ) (answer : Answer) where
   pub replied_line : (reply : Reply) → answer ≡ Replied reply
-      → put next after ≡ line_written out at (reply_line ram reply)
-      → put next after ≡ line_written out at (answer_line ram answer)
-  replied_line reply is is_put = rw is is_put
+      → Leaves old new (line_on old (reply_line ram reply))
+      → Leaves old new (line_on old (answer_line ram answer))
+  replied_line reply is printed = rw is printed
 
   pub queue_line_lem : (word : ℕ) → answer ≡ QueueWord word
-      → put next after ≡ line_written out at (queue_line word)
-      → put next after ≡ line_written out at (answer_line ram answer)
-  queue_line_lem word is is_put = rw is is_put
+      → Leaves old new (line_on old (queue_line word))
+      → Leaves old new (line_on old (answer_line ram answer))
+  queue_line_lem word is printed = rw is printed
 
 pub ruleset answer_lines = (replied_line, queue_line_lem)

@@ -16,7 +16,6 @@ use Rattle.std.proofs.Common.{
   ◌∙◌,
   arith,
 }
-use Rattle.refusals.specs.Number.{number_of}
 use Rattle.terminal.specs.declared.state.Core.{Core}
 use Rattle.terminal.specs.declared.state.Answer.{Answer}
 use Rattle.queue.specs.declared.Queue.{Queue}

@@ -1,40 +1,46 @@
 // The lines that a run prints, into the buffer that it is lent.
 ghost use Rattle.std.specs.Prelude.{◌≡◌};
+ghost use Rattle.lines.specs.Page.{Leaves, line_on};
 ghost use Rattle.lines.specs.Written.{put, line_written};
 ghost use Rattle.tray.specs.Run.{reply_line, answer_line};
 
 use card::place::CARD_BLOCKS;
 use card::sent;
-use lines;
+use lines::Page;
 use terminal::state::{Answer, Reply};
 
 // The line of a reply: nothing of silence; else its status and the words sent, which stand in the
 // RAM.
-fn put_reply(out: &mut [u8], at: usize, ram: &[u16], reply: Reply) -> usize
-    ensures { put result out.new
-        ≡ line_written out.old at (reply_line ram.now reply) }
+fn put_reply(page: &mut Page, ram: &[u16], reply: Reply)
+    ensures { Leaves page.old page.new (line_on page.old (reply_line ram.now reply)) }
 {
     match reply {
-        Reply::Silent => at,
-        Reply::Status(status) => lines::status_line(out, at, status, &ram[0..0]),
+        Reply::Silent => {}
+        Reply::Status(status) => page.status_line(status, &[]),
         Reply::Words {
             status,
             block,
             count,
-        } => lines::status_line(out, at, status, sent::part(ram, CARD_BLOCKS, block, count)),
-        Reply::Last { status, command } => {
-            let words: [u16; 1] = [command];
-            lines::status_line(out, at, status, &words)
-        }
+        } => page.status_line(status, sent::part(ram, CARD_BLOCKS, block, count)),
+        Reply::Last { status, command } => page.status_line(status, &[command]),
     }
 }
 
+fn put_line(page: &mut Page, ram: &[u16], answer: Answer)
+    ensures { Leaves page.old page.new (line_on page.old (answer_line ram.now answer)) }
+{
+    match answer {
+        Answer::Replied(reply) => put_reply(page, ram, reply),
+        Answer::QueueWord(word) => page.queue_line(word),
+    }
+}
+
+// The place alone is given and answered, since a call over a window keeps it beside the run.
 pub(crate) fn put_answer(out: &mut [u8], at: usize, ram: &[u16], answer: Answer) -> usize
     ensures { put result out.new
         ≡ line_written out.old at (answer_line ram.now answer) }
 {
-    match answer {
-        Answer::Replied(reply) => put_reply(out, at, ram, reply),
-        Answer::QueueWord(word) => lines::queue_line(out, at, word),
-    }
+    let mut page = Page { out, at };
+    put_line(&mut page, ram, answer);
+    page.at
 }

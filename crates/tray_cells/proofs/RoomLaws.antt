@@ -22,9 +22,9 @@ use Rattle.message.specs.declared.state.OpenMessage.{OpenMessage}
 use Rattle.terminal.specs.declared.state.Core.{Core}
 use Rattle.queue.specs.declared.Queue.{Queue}
 use Rattle.lines.specs.Lines.{blank, newline}
-use Rattle.lines.specs.Written.{put}
+use Rattle.lines.specs.declared.Page.{Page}
 use Rattle.tray.specs.declared.run.Tray.{Tray as HeldTray}
-use Rattle.shown.specs.Text.{bytes, fitted, Fits}
+use Rattle.shown.specs.Text.{bytes, Fits}
 use Rattle.shown.specs.Item.{item}
 use Rattle.shown.specs.Cells.{cell_lines}
 use Rattle.shown.proofs.TextLaws.{fits_then}
@@ -180,15 +180,13 @@ of_state run = go run.seen.setup where
 
 -- the state, then the cells, are all of what the program prints behind a run's lines; no more than
 -- 256 blocks wait, since a run leaves a fit terminal
-pub nothing_is_cut : (run : HeldTray) (ram out out₁ after : List ℕ) (next end : ℕ)
-    → run.queue.ring.count ≤ queue_places → length ram ≡ 16384 → length out ≡ 172032
-    → put next out₁ ≡ fitted out 0 (state_text run)
-    → put end after ≡ fitted out₁ next (cell_lines 0 ram)
-    → take end after ≡ state_text run ++ cell_lines 0 ram
-nothing_is_cut run ram out out₁ after next end few cells room is is' =
-    let state : Fits out 0 (state_text run) out₁ next = record { is_fitted = is } in
-    let rest : Fits out₁ next (cell_lines 0 ram) after end = record { is_fitted = is' } in
-    put_whole out (state_text run ++ cell_lines 0 ram) after end (fits_then state rest)
+pub nothing_is_cut : (run : HeldTray) (ram : List ℕ) (empty stated full : Page)
+    → run.queue.ring.count ≤ queue_places → length ram ≡ 16384
+    → empty.at ≡ 0 → length empty.out.now ≡ 172032
+    → Fits empty (state_text run) stated → Fits stated (cell_lines 0 ram) full
+    → take full.at full.out.now ≡ state_text run ++ cell_lines 0 ram
+nothing_is_cut run ram empty stated full few cells start room state rest =
+    put_whole empty (state_text run places ++ cell_lines 0 ram) full (fits_then state rest) start
     (omega (
       arith,
       (both (of_state run) (of_cells 0 ram)).bound,

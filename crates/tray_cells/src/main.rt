@@ -5,6 +5,7 @@
 
 mod state;
 
+use lines::Page;
 use shown::cells;
 use std::io::Write;
 use tray::Tray;
@@ -12,15 +13,16 @@ use tray_stream;
 
 // State and cells, in one write. There is room for both (`nothing_is_cut`): with 256 blocks that
 // wait, the state takes some 1,300 bytes, and 16,384 cells take 163,840, at 10 bytes a line.
-fn print_left<O: Write>(output: &mut O, tray: &Tray, ram: &[u16; 16384]) {
-    let memory: &[u16] = ram;
+fn print_left<O: Write>(output: &mut O, tray: &Tray, ram: &[u16]) {
     let mut space: [u8; 172032] = [0; 172032];
-    let out: &mut [u8] = &mut space;
-    let next = state::put_state(out, 0, tray);
-    let end = cells::put_cells(out, next, memory);
-    let text = &out[..];
+    let mut page = Page {
+        out: &mut space,
+        at: 0,
+    };
+    state::put_state(&mut page, tray);
+    cells::put_cells(&mut page, ram);
     // whether they were taken is not asked: nothing comes behind them
-    output.write_all(&text[0..end]).is_ok();
+    let _ = output.write_all(page.written());
 }
 
 fn main(rt: HostRuntime) {

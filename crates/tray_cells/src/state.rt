@@ -1,10 +1,6 @@
-// The lines of the terminal's state, an item a line. Every function here puts its text into the
-// lent buffer from a place on, as much as there is room for, and answers the next place.
-ghost use Rattle.std.specs.Prelude.{◌≡◌, ◌∷◌, ◌%◌};
-ghost use Rattle.lines.specs.Digits.{hex_byte, decimal};
-ghost use Rattle.lines.specs.Lines.{blank};
-ghost use Rattle.lines.specs.Written.{put};
-ghost use Rattle.shown.specs.Text.{fitted, Fits};
+// The lines of the terminal's state, an item a line. Every function here puts its text onto the
+// page, as much as there is room for.
+ghost use Rattle.shown.specs.Text.{Fits};
 ghost use Rattle.shown.specs.Item.{part, line};
 ghost use Rattle.tray_cells.specs.State.{
   time_text,
@@ -27,216 +23,178 @@ ghost use Rattle.tray_cells.specs.State.{
   state_text,
 };
 
+use lines::Page;
 use message::state::{OpenMessage, Stage};
 use queue::{Queue, Ring};
-use shown::{item, text};
+use shown::item::put_item;
+use shown::text::{Hex, Shown, put_text};
 use terminal::state::Core;
 use tray::Tray;
 
 // ---- the open message
 
-fn put_line(out: &mut [u8], at: usize, line: bool) -> usize
-    ensures { Fits out.old at (part "line " (line_name line))
-        out.new result }
+fn put_line(page: &mut Page, line: bool)
+    ensures { Fits page.old (part "line " (line_name line)) page.new }
 {
     if line {
-        return text::put_text(out, at, b"line B ");
+        return put_text(page, b"line B ");
     }
-    text::put_text(out, at, b"line A ")
+    put_text(page, b"line A ");
 }
 
 // A time has 32 bits.
-fn put_opened(out: &mut [u8], at: usize, opened: u32) -> usize
-    ensures { Fits out.old at (part "opened " (time_text opened))
-        out.new result }
+fn put_opened(page: &mut Page, opened: u32)
+    ensures { Fits page.old (part "opened " (time_text opened)) page.new }
 {
-    let first = text::put_text(out, at, b"opened ");
-    let second = text::put_hex_word(out, first, (opened / 65536 % 65536) as u16);
-    let third = text::put_hex_word(out, second, (opened % 65536) as u16);
-    text::put_byte(out, third, b' ')
+    put_text(page, b"opened ");
+    Hex((opened / 65536 % 65536) as u16).put(page);
+    Hex((opened % 65536) as u16).put(page);
+    put_text(page, b" ");
 }
 
-fn put_second(out: &mut [u8], at: usize, second: Option<u16>) -> usize
-    ensures { Fits out.old at (part "second " (second_text second))
-        out.new result }
+fn put_second(page: &mut Page, second: Option<u16>)
+    ensures { Fits page.old (part "second " (second_text second)) page.new }
 {
     match second {
-        None => text::put_text(out, at, b"second none "),
-        Some(command) => item::put_word(out, at, b"second ", command, b' '),
+        None => put_text(page, b"second none "),
+        Some(command) => put_item(page, b"second ", &Hex(command), b' '),
     }
 }
 
-fn put_stage(out: &mut [u8], at: usize, stage: Stage) -> usize
-    ensures { Fits out.old at (line "stage " (stage_text stage))
-        out.new result }
+fn put_stage(page: &mut Page, stage: Stage)
+    ensures { Fits page.old (line "stage " (stage_text stage)) page.new }
 {
     match stage {
-        Stage::Data => text::put_text(out, at, b"stage data\n"),
-        Stage::SecondCommand => text::put_text(out, at, b"stage second\n"),
-        Stage::AwaitingStatus => text::put_text(out, at, b"stage awaiting\n"),
-        Stage::Skipping => text::put_text(out, at, b"stage skipping\n"),
+        Stage::Data => put_text(page, b"stage data\n"),
+        Stage::SecondCommand => put_text(page, b"stage second\n"),
+        Stage::AwaitingStatus => put_text(page, b"stage awaiting\n"),
+        Stage::Skipping => put_text(page, b"stage skipping\n"),
     }
 }
 
 // Command, line and block.
-fn put_opening(out: &mut [u8], at: usize, message: OpenMessage) -> usize
-    ensures { Fits out.old at (opening_text message)
-        out.new result }
+fn put_opening(page: &mut Page, message: OpenMessage)
+    ensures { Fits page.old (opening_text message) page.new }
 {
-    let first = item::put_word(out, at, b"open ", message.command, b' ');
-    let second = put_line(out, first, message.line);
-    item::put_number(out, second, b"block ", message.block.0, b' ')
+    put_item(page, b"open ", &Hex(message.command), b' ');
+    put_line(page, message.line);
+    put_item(page, b"block ", &message.block.0, b' ');
 }
 
 // The table block, and what was fixed with it.
-fn put_fixed(out: &mut [u8], at: usize, message: OpenMessage) -> usize
-    ensures { Fits out.old at (fixed_text message)
-        out.new result }
+fn put_fixed(page: &mut Page, message: OpenMessage)
+    ensures { Fits page.old (fixed_text message) page.new }
 {
-    let first = item::put_number(out, at, b"table ", message.table.0, b' ');
-    let second = item::put_mark(out, first, b"moved ", message.moved, b' ');
-    let third = item::put_mark(out, second, b"busy ", message.busy, b' ');
-    item::put_mark(out, third, b"queued ", message.queued, b' ')
+    put_item(page, b"table ", &message.table.0, b' ');
+    put_item(page, b"moved ", &message.moved, b' ');
+    put_item(page, b"busy ", &message.busy, b' ');
+    put_item(page, b"queued ", &message.queued, b' ');
 }
 
 // How far the message has come.
-fn put_progress(out: &mut [u8], at: usize, message: OpenMessage) -> usize
-    ensures { Fits out.old at (progress_text message)
-        out.new result }
+fn put_progress(page: &mut Page, message: OpenMessage)
+    ensures { Fits page.old (progress_text message) page.new }
 {
-    let command = message.second;
-    let stage = message.stage;
-    let first = put_opened(out, at, message.opened);
-    let second = item::put_number(out, first, b"taken ", message.taken, b' ');
-    let third = put_second(out, second, command);
-    put_stage(out, third, stage)
+    put_opened(page, message.opened);
+    put_item(page, b"taken ", &message.taken, b' ');
+    put_second(page, message.second);
+    put_stage(page, message.stage);
 }
 
-fn put_message(out: &mut [u8], at: usize, message: Option<OpenMessage>) -> usize
-    ensures { Fits out.old at (message_text message)
-        out.new result }
+fn put_message(page: &mut Page, message: Option<OpenMessage>)
+    ensures { Fits page.old (message_text message) page.new }
 {
     match message {
-        None => text::put_text(out, at, b"open none\n"),
+        None => put_text(page, b"open none\n"),
         Some(open) => {
-            let first = put_opening(out, at, open);
-            let second = put_fixed(out, first, open);
-            put_progress(out, second, open)
+            put_opening(page, open);
+            put_fixed(page, open);
+            put_progress(page, open);
         }
     }
 }
 
 // ---- the queue
 
-fn put_block(out: &mut [u8], at: usize, block: u16) -> usize
-    ensures { Fits out.old at (blank ∷ decimal block)
-        out.new result }
-{
-    let first = text::put_byte(out, at, b' ');
-    text::put_decimal(out, first, block)
-}
-
 // The blocks that wait, oldest first.
-fn put_blocks(out: &mut [u8], at: usize, ring: Ring, places: &[u16; 256]) -> usize
-    ensures { Fits out.old at
-        (each_block (blocks_from places.now ring.start ring.count))
-        out.new result }
+fn put_blocks(page: &mut Page, ring: Ring, places: &[u16; 256])
+    ensures { Fits page.old (each_block (blocks_from places.now ring.start ring.count)) page.new }
 {
-    let start = ring.start as usize;
-    let mut next = at;
     for index in 0..ring.count {
-        let place = (start + index as usize) % 256;
-        next = put_block(out, next, places[place]);
+        let place = (ring.start as usize + index as usize) % 256;
+        put_text(page, b" ");
+        places[place].put(page);
     }
-    next
 }
 
-fn put_waiting(out: &mut [u8], at: usize, ring: Ring, places: &[u16; 256]) -> usize
-    ensures { Fits out.old at (waiting_text places.now ring)
-        out.new result }
+fn put_waiting(page: &mut Page, ring: Ring, places: &[u16; 256])
+    ensures { Fits page.old (waiting_text places.now ring) page.new }
 {
     if ring.count == 0 {
-        return text::put_text(out, at, b"waiting none\n");
+        return put_text(page, b"waiting none\n");
     }
-    let first = text::put_text(out, at, b"waiting");
-    let second = put_blocks(out, first, ring, places);
-    text::put_byte(out, second, b'\n')
+    put_text(page, b"waiting");
+    put_blocks(page, ring, places);
+    put_text(page, b"\n");
 }
 
-fn put_queue(out: &mut [u8], at: usize, queue: &Queue) -> usize
-    ensures { Fits out.old at (queue_text queue.now)
-        out.new result }
+fn put_queue(page: &mut Page, queue: &Queue)
+    ensures { Fits page.old (queue_text queue.now) page.new }
 {
-    let next = item::put_mark(out, at, b"overflow ", queue.ring.overflow, b'\n');
-    put_waiting(out, next, queue.ring, &queue.places)
+    put_item(page, b"overflow ", &queue.ring.overflow, b'\n');
+    put_waiting(page, queue.ring, &queue.places);
 }
 
 // ---- the terminal
 
-fn put_flags(out: &mut [u8], at: usize, flags: u16) -> usize
-    ensures { Fits out.old at (line "flags " (hex_byte (flags % 256)))
-        out.new result }
-{
-    let first = text::put_text(out, at, b"flags ");
-    let second = text::put_hex_byte(out, first, (flags % 256) as u8);
-    text::put_byte(out, second, b'\n')
-}
-
 // What setup and the host have set.
-fn put_words(out: &mut [u8], at: usize, core: Core) -> usize
-    ensures { Fits out.old at (words_text core)
-        out.new result }
+fn put_words(page: &mut Page, core: Core)
+    ensures { Fits page.old (words_text core) page.new }
 {
-    let first = item::put_number(out, at, b"station ", core.station, b'\n');
-    let second = item::put_number(out, first, b"table ", core.table.0, b'\n');
-    put_flags(out, second, core.flags)
+    put_item(page, b"station ", &core.station, b'\n');
+    put_item(page, b"table ", &core.table.0, b'\n');
+    put_item(page, b"flags ", &Hex((core.flags % 256) as u8), b'\n');
 }
 
 // Remembered status and last command.
-fn put_remembered(out: &mut [u8], at: usize, core: Core) -> usize
-    ensures { Fits out.old at (remembered_text core)
-        out.new result }
+fn put_remembered(page: &mut Page, core: Core)
+    ensures { Fits page.old (remembered_text core) page.new }
 {
-    let next = item::put_word(out, at, b"status ", core.status, b'\n');
-    item::put_word(out, next, b"last ", core.last, b'\n')
+    put_item(page, b"status ", &Hex(core.status), b'\n');
+    put_item(page, b"last ", &Hex(core.last), b'\n');
 }
 
 // What mode commands have switched.
-fn put_switches(out: &mut [u8], at: usize, core: Core) -> usize
-    ensures { Fits out.old at (switches_text core)
-        out.new result }
+fn put_switches(page: &mut Page, core: Core)
+    ensures { Fits page.old (switches_text core) page.new }
 {
-    let shut = core.shut;
-    let first = item::put_mark(out, at, b"shut A ", shut.a, b'\n');
-    let second = item::put_mark(out, first, b"shut B ", shut.b, b'\n');
-    item::put_mark(out, second, b"inhibit ", core.inhibit, b'\n')
+    put_item(page, b"shut A ", &core.shut.a, b'\n');
+    put_item(page, b"shut B ", &core.shut.b, b'\n');
+    put_item(page, b"inhibit ", &core.inhibit, b'\n');
 }
 
-fn put_core(out: &mut [u8], at: usize, core: Core) -> usize
-    ensures { Fits out.old at (core_text core)
-        out.new result }
+fn put_core(page: &mut Page, core: Core)
+    ensures { Fits page.old (core_text core) page.new }
 {
-    let first = put_words(out, at, core);
-    let second = put_remembered(out, first, core);
-    put_switches(out, second, core)
+    put_words(page, core);
+    put_remembered(page, core);
+    put_switches(page, core);
 }
 
-fn put_terminal(out: &mut [u8], at: usize, core: Core, queue: &Queue) -> usize
-    ensures { Fits out.old at (terminal_text core queue.now)
-        out.new result }
+fn put_terminal(page: &mut Page, core: Core, queue: &Queue)
+    ensures { Fits page.old (terminal_text core queue.now) page.new }
 {
-    let first = put_core(out, at, core);
-    let second = put_queue(out, first, queue);
-    put_message(out, second, core.message)
+    put_core(page, core);
+    put_queue(page, queue);
+    put_message(page, core.message);
 }
 
 // Every item of the state. Before a setup was taken there is no terminal.
-pub fn put_state(out: &mut [u8], at: usize, tray: &Tray) -> usize
-    ensures { put result out.new
-        ≡ fitted out.old at (state_text tray.now) }
+pub fn put_state(page: &mut Page, tray: &Tray)
+    ensures { Fits page.old (state_text tray.now) page.new }
 {
     if tray.seen.setup {
-        return put_terminal(out, at, tray.core, &tray.queue);
+        return put_terminal(page, tray.core, &tray.queue);
     }
-    text::put_text(out, at, b"terminal none\n")
+    put_text(page, b"terminal none\n");
 }

@@ -1,5 +1,5 @@
--- `card::part::shown` meets its contract: the refusal that it asks for tells whether the part is there.
--- Assumes nothing.
+-- `card::part::shown` meets its contract: the refusal that it asks for tells whether the part is
+-- there. Assumes nothing.
 use Rattle.std.proofs.Common.{rules}
 use Rattle.card.proofs.PartLaws.{parts}
 use Rattle.card.proofs.part.shown.Goals as goal

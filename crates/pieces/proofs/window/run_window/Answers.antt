@@ -8,7 +8,7 @@ pub loop-turns-preserved : goal.loop-turns-preserved
 loop-turns-preserved g c =
     leads_on _ _ _ _ _ _ _ c.loop-turns.invariant _ _ _ _ _ c.loop-turns-test.true
     (sym c.is_going.ensures ∙ c.if-is_going.true)
-    c.left_from-room.ensures c.take_row-row.ensures c.turn-passed.ensures
+    c.saturating_sub-room.ensures c.take_row-row.ensures c.turn-passed.ensures
 
 pub returns-else-is_going : goal.returns-else-is_going
 unfolding window_run

@@ -5,8 +5,8 @@ use Rattle.pieces.proofs.FieldLaws.{turn_full, turn_takes, turn_ends, turn_refus
 use Rattle.pieces.proofs.window.turn.Goals.{in-Ok-None, in-Err}
 use Rattle.pieces.proofs.window.turn.Goals as goal
 
-pub returns-then-left_from-lt-LINE_ROOM : goal.returns-then-left_from-lt-LINE_ROOM
-returns-then-left_from-lt-LINE_ROOM g c = search (rules, turn_full) depth 9
+pub returns-then-saturating_sub-lt-LINE_ROOM : goal.returns-then-saturating_sub-lt-LINE_ROOM
+returns-then-saturating_sub-lt-LINE_ROOM g c = search (rules, turn_full) depth 9
 
 pub returns-in-Ok-Some : goal.returns-in-Ok-Some
 returns-in-Ok-Some g c =

@@ -1,5 +1,5 @@
--- `recording::reading::field_there` meets its contract: a law for each answer of the reader. Assumes
--- nothing.
+-- `recording::reading::field_there` meets its contract: a law for each answer of the reader.
+-- Assumes nothing.
 use Rattle.std.proofs.Common.{◌≡◌, Err, rules}
 use Rattle.rules.proofs.Cases.{turned, answers}
 use Rattle.recording.proofs.ReadingLaws.{

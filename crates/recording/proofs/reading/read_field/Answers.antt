@@ -1,5 +1,5 @@
--- `recording::reading::read_field` meets its contract: where nothing is left, by the law of the end.
--- Assumes nothing.
+-- `recording::reading::read_field` meets its contract: where nothing is left, by the law of the
+-- end. Assumes nothing.
 use Rattle.recording.proofs.ReadingLaws.{read_end}
 use Rattle.recording.proofs.reading.read_field.Goals as goal
 

@@ -7,20 +7,8 @@ use Rattle.recording.proofs.words.find_word.Goals as goal
 pub returns-in_err-get : goal.returns-in_err-get
 returns-in_err-get c = search (rules, finding, c.in_err-get.ensures) depth 9
 
-pub returns-in-2 : goal.returns-in-2
-returns-in-2 c = search (rules, finding, c.in_ok-get.ensures) depth 9
-
 pub returns-in_default : goal.returns-in_default
 returns-in_default c = search (rules, finding, c.in_ok-get.ensures) depth 9
 
-pub returns-in_default-2 : goal.returns-in_default-2
-returns-in_default-2 c = search (rules, finding, c.in_ok-get.ensures) depth 9
-
-pub returns-in_default-3 : goal.returns-in_default-3
-returns-in_default-3 c = search (rules, finding, c.in_ok-get.ensures) depth 9
-
-pub returns-in_default-4 : goal.returns-in_default-4
-returns-in_default-4 c = search (rules, finding, c.in_ok-get.ensures) depth 9
-
-pub returns-in_default-5 : goal.returns-in_default-5
-returns-in_default-5 c = search (rules, finding, c.in_ok-get.ensures) depth 9
+pub returns : goal.returns
+returns c = search (rules, finding, c.in_ok-get.ensures) depth 9

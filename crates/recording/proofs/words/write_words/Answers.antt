@@ -1,7 +1,13 @@
 -- `recording::words::write_words` meets its contract: too many, not all there, or written one by
 -- one. Assumes nothing.
 use Rattle.std.proofs.Common.{rules}
-use Rattle.recording.proofs.WordsLaws.{too_many_written, not_there_written, writing_all, writing_less, writing_past}
+use Rattle.recording.proofs.WordsLaws.{
+  too_many_written,
+  not_there_written,
+  writing_all,
+  writing_less,
+  writing_past,
+}
 use Rattle.recording.proofs.words.write_words.Goals.{
   then-count-gt-MOST_WRITTEN-via-then-count-gt-MOST_WRITTEN,
   then-start-word,

@@ -18,4 +18,5 @@ overflow_sub-result c =
 pub returns : goal.returns
 returns c =
     let able : may_take c.args.self c.args.setup c.args.room c.args.most ≡ true = search rules in
-    words_taken_lem _ _ c.args.setup c.args.room _ _ _ _ _ _ able c.store-reach.ensures _ _ refl refl
+    words_taken_lem _ _ c.args.setup c.args.room _ _ _ _ _ _ able c.store-reach.ensures _ _
+    refl refl

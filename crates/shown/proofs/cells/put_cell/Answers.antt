@@ -1,6 +1,6 @@
 -- `shown::cells::put_cell` meets its contract: nothing of a zero, else its parts in turn.
 -- Assumes nothing.
-use borrow.Author.Rules.{rules}
+use Rattle.std.proofs.Common.{rules}
 use Rattle.shown.proofs.CellLaws.{zero_fits, cell_fits}
 use Rattle.shown.proofs.cells.put_cell.Goals as goal
 

@@ -1,10 +1,7 @@
--- `shown::text::put_text` meets its contract, with room and without. Assumes nothing.
-use borrow.Author.Rules.{rules}
-use Rattle.shown.proofs.TextLaws.{text_whole, text_cut}
+-- `shown::text::put_text` meets its contract: the part that there is room for. Assumes nothing.
+use Rattle.std.proofs.Common.{rules}
+use Rattle.shown.proofs.TextLaws.{text_fits}
 use Rattle.shown.proofs.text.put_text.Goals as goal
 
-pub returns-then-room-text : goal.returns-then-room-text
-returns-then-room-text c = search (rules, text_cut)
-
 pub returns : goal.returns
-returns c = search (rules, text_whole)
+returns c = search (rules, text_fits)

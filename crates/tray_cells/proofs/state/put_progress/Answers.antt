@@ -1,7 +1,9 @@
 -- `tray_cells::state::put_progress` meets its contract: its parts are put in turn. Assumes nothing.
-use borrow.Author.Rules.{rules}
-use Rattle.tray_cells.proofs.StateLaws.{progress_fits}
+use Rattle.std.proofs.Common.{rules}
+use Rattle.shown.proofs.TextLaws.{fits_then}
+use Rattle.tray_cells.specs.State.{progress_text}
 use Rattle.tray_cells.proofs.state.put_progress.Goals as goal
 
 pub returns : goal.returns
-returns c = search (rules, progress_fits)
+unfolding progress_text
+returns c = search (rules, fits_then)

@@ -1,0 +1,10 @@
+-- `desk::print::put_line` meets its contract. Assumes nothing.
+use Rattle.std.proofs.Common.{rules}
+use Rattle.desk.proofs.LineLaws.{answer_lines}
+use Rattle.desk.proofs.print.put_line.Goals as goal
+
+pub returns-in-Gave : goal.returns-in-Gave
+returns-in-Gave c = search (rules, answer_lines)
+
+pub returns-in-Ended : goal.returns-in-Ended
+returns-in-Ended c = search (rules, answer_lines)

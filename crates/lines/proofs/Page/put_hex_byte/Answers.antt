@@ -1,0 +1,7 @@
+-- `lines::Page::put_hex_byte` meets its contract. Assumes nothing.
+use Rattle.std.proofs.Common.{rules}
+use Rattle.lines.proofs.PartLaws.{wrote_hex_byte}
+use Rattle.lines.proofs.Page.put_hex_byte.Goals as goal
+
+pub returns : goal.returns
+returns c = search (rules, wrote_hex_byte)
