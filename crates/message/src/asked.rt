@@ -54,7 +54,7 @@ fn with_block(cell: Cell) -> Asked
     Asked {
         illegal: false,
         block: true,
-        cell: cell,
+        cell,
         takes: 0,
         sends: 0,
         receive: false,
@@ -69,9 +69,10 @@ fn with_block(cell: Cell) -> Asked
 fn without_block() -> Asked
     ensures { result ≡ columns legal no_block no_words serves keeps_none no_act }
 {
-    let mut asked = with_block(Cell(31));
-    asked.block = false;
-    asked
+    Asked {
+        block: false,
+        ..with_block(Cell(31))
+    }
 }
 
 // The chain of a mode command that sends: code 16 by cell 32, code 19 by cell 63.
@@ -88,56 +89,46 @@ fn asked_by(kind: Kind, command: u16) -> Asked
     let words = command::words(command);
     let code = command::mode_code(command);
     match kind {
-        Kind::Receive => {
-            let mut asked = with_block(Cell(subaddress));
-            asked.takes = words;
-            asked.receive = true;
-            asked.yields = true;
-            asked
-        }
-        Kind::Transmit => {
-            let number = 32 + subaddress;
-            let mut asked = with_block(Cell(number));
-            asked.sends = words;
-            asked.yields = true;
-            asked
-        }
-        Kind::ModeStatus => {
-            let mut asked = without_block();
-            asked.fresh = false;
-            asked
-        }
-        Kind::ModeLast => {
-            let mut asked = without_block();
-            asked.fresh = false;
-            asked.last = true;
-            asked
-        }
-        Kind::ModeSwitch => {
-            let mut asked = without_block();
-            asked.switch = code;
-            asked
-        }
-        Kind::ModeSend => {
-            let mut asked = with_block(sending_cell(code));
-            asked.sends = 1;
-            asked
-        }
-        Kind::ModeTake => {
-            let mut asked = with_block(Cell(31));
-            asked.takes = 1;
-            asked
-        }
-        Kind::ModeReply => {
-            let mut asked = with_block(Cell(31));
-            asked.switch = code;
-            asked
-        }
-        Kind::Illegal => {
-            let mut asked = without_block();
-            asked.illegal = true;
-            asked
-        }
+        Kind::Receive => Asked {
+            takes: words,
+            receive: true,
+            yields: true,
+            ..with_block(Cell(subaddress))
+        },
+        Kind::Transmit => Asked {
+            sends: words,
+            yields: true,
+            ..with_block(Cell(32 + subaddress))
+        },
+        Kind::ModeStatus => Asked {
+            fresh: false,
+            ..without_block()
+        },
+        Kind::ModeLast => Asked {
+            fresh: false,
+            last: true,
+            ..without_block()
+        },
+        Kind::ModeSwitch => Asked {
+            switch: code,
+            ..without_block()
+        },
+        Kind::ModeSend => Asked {
+            sends: 1,
+            ..with_block(sending_cell(code))
+        },
+        Kind::ModeTake => Asked {
+            takes: 1,
+            ..with_block(Cell(31))
+        },
+        Kind::ModeReply => Asked {
+            switch: code,
+            ..with_block(Cell(31))
+        },
+        Kind::Illegal => Asked {
+            illegal: true,
+            ..without_block()
+        },
     }
 }
 
@@ -145,8 +136,7 @@ fn asked_by(kind: Kind, command: u16) -> Asked
 pub fn asked_of(command: u16) -> Asked
     ensures { result ≡ asked_of command }
 {
-    let kind = kind::kind_of(command);
-    asked_by(kind, command)
+    asked_by(kind::kind_of(command), command)
 }
 
 impl OpenMessage {
@@ -156,7 +146,6 @@ impl OpenMessage {
     pub fn asks(self) -> Asked
         ensures { result ≡ asks self }
     {
-        let kind = kind::kind_of(self.command);
-        asked_by(kind, self.command)
+        asked_by(kind::kind_of(self.command), self.command)
     }
 }

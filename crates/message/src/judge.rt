@@ -1,7 +1,7 @@
 // What a word or a silence does to an open message: the decision alone, which looks at no memory.
 ghost use Rattle.std.specs.Prelude.{◌≡◌};
-ghost use Rattle.message.specs.Words.{own_command};
 ghost use Rattle.message.specs.Words.{
+  own_command,
   asks_for_data,
   drops_broadcast,
   is_second,
@@ -64,9 +64,7 @@ pub fn is_own(station: u16, flags: u16, word: Word) -> bool
 fn asks_for_data(value: u16) -> bool
     ensures { result ≡ asks_for_data value }
 {
-    let transmit = command::is_transmit(value);
-    let mode = command::is_mode(value);
-    transmit & !mode
+    command::is_transmit(value) & !command::is_mode(value)
 }
 
 // Rule 6: a broadcast message is dropped by a word to this station alone that asks for data.
@@ -108,63 +106,48 @@ fn first_command(station: u16, command: u16, value: u16) -> WordAct
 fn in_data(station: u16, asked: Asked, message: OpenMessage, word: Word) -> WordAct
     ensures { result ≡ in_data station asked message word }
 {
-    let unsound = !word.sound;
-    let unjoined = !word.joined;
-    let sync = word.sync;
-    let taken = message.taken;
-    let takes = asked.takes;
-    let second = message.second;
-    let answered = second.is_some();
-    let first = sync & asked.receive & (taken == 0) & !answered;
-    let kept = message.busy & asked.yields;
-    if unsound {
+    let first = word.sync & asked.receive & (message.taken == 0) & !message.second.is_some();
+    if !word.sound {
         return WordAct::Fault(1);
     }
-    if unjoined {
+    if !word.joined {
         return WordAct::Fault(3);
     }
-    if takes <= taken {
+    if asked.takes <= message.taken {
         return WordAct::Fault(4);
     }
     if first {
         return first_command(station, message.command, word.value);
     }
-    if sync {
+    if word.sync {
         return WordAct::Fault(6);
     }
-    if kept {
-        return WordAct::Check(taken + 1);
+    if message.busy & asked.yields {
+        return WordAct::Check(message.taken + 1);
     }
-    WordAct::Store(taken + 1)
+    WordAct::Store(message.taken + 1)
 }
 
 // Rules 1, 3 and 4.
 fn in_second_command(word: Word) -> WordAct
     ensures { result ≡ in_second_command word }
 {
-    let sound = word.sound;
-    let joined = word.joined;
-    if !sound {
+    if !word.sound {
         return WordAct::Fault(1);
     }
-    if !joined {
-        return WordAct::Fault(3);
-    }
-    WordAct::Fault(7)
+    WordAct::Fault(if word.joined { 7 } else { 3 })
 }
 
 // Rules 1 and 2.
 fn in_awaiting_status(second: u16, word: Word) -> WordAct
     ensures { result ≡ in_awaiting_status second word }
 {
-    let sound = word.sound;
-    let sync = word.sync;
     let address = command::address(word.value);
     let wanted = command::address(second);
-    if !sound {
+    if !word.sound {
         return WordAct::Fault(1);
     }
-    if !sync {
+    if !word.sync {
         return WordAct::Fault(6);
     }
     if address == wanted {
@@ -195,16 +178,15 @@ pub fn on_word(station: u16, flags: u16, asked: Asked, message: OpenMessage, wor
     ensures { result ≡ on_word station flags asked message word }
 {
     let own = is_own(station, flags, word);
-    let elsewhere = !(word.line == message.line);
+    let elsewhere = word.line != message.line;
     let supersedes = own & (elsewhere | !word.joined);
-    let stage = message.stage;
     if supersedes {
         return WordAct::Supersede;
     }
     if elsewhere {
         return WordAct::Ignore;
     }
-    word_in_stage(stage, station, asked, message, word)
+    word_in_stage(message.stage, station, asked, message, word)
 }
 
 fn silence_in_stage(stage: Stage, asked: Asked, message: OpenMessage) -> SilenceAct
@@ -213,9 +195,10 @@ fn silence_in_stage(stage: Stage, asked: Asked, message: OpenMessage) -> Silence
     match stage {
         Stage::Data => {
             if message.taken < asked.takes {
-                return SilenceAct::Fault(3);
+                SilenceAct::Fault(3)
+            } else {
+                SilenceAct::End
             }
-            SilenceAct::End
         }
         Stage::SecondCommand => SilenceAct::AwaitStatus,
         Stage::AwaitingStatus => SilenceAct::Fault(2),
@@ -227,10 +210,8 @@ fn silence_in_stage(stage: Stage, asked: Asked, message: OpenMessage) -> Silence
 pub fn on_silence(asked: Asked, message: OpenMessage, line: bool) -> SilenceAct
     ensures { result ≡ on_silence asked message line }
 {
-    let elsewhere = !(line == message.line);
-    let stage = message.stage;
-    if elsewhere {
+    if line != message.line {
         return SilenceAct::Ignore;
     }
-    silence_in_stage(stage, asked, message)
+    silence_in_stage(message.stage, asked, message)
 }

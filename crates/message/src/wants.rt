@@ -9,19 +9,16 @@ impl OpenMessage {
     pub fn wants(self) -> u16
         ensures { result ≡ wants self }
     {
-        let stage = self.stage;
-        match stage {
+        match self.stage {
             Stage::Data => {
                 let asked = self.asks();
-                let kept = self.busy & asked.yields;
-                if kept {
-                    return 0;
+                if self.busy & asked.yields {
+                    0
+                } else {
+                    asked.takes
                 }
-                asked.takes
             }
-            Stage::SecondCommand => 0,
-            Stage::AwaitingStatus => 0,
-            Stage::Skipping => 0,
+            Stage::SecondCommand | Stage::AwaitingStatus | Stage::Skipping => 0,
         }
     }
 }

@@ -6,13 +6,13 @@ use Rattle.message.specs.Words.{in_awaiting_status}
 use Rattle.message.proofs.JudgeLaws.{answering}
 use Rattle.message.proofs.judge.in_awaiting_status.Goals as goal
 
-pub returns-then-not-sound : goal.returns-then-not-sound
+pub returns-then-not-word : goal.returns-then-not-word
 unfolding in_awaiting_status
-returns-then-not-sound c = search cases depth 9
+returns-then-not-word c = search cases depth 9
 
-pub returns-then-not-sync : goal.returns-then-not-sync
+pub returns-then-not-word-2 : goal.returns-then-not-word-2
 unfolding in_awaiting_status
-returns-then-not-sync c = search cases depth 9
+returns-then-not-word-2 c = search cases depth 9
 
 pub returns-then-address-wanted : goal.returns-then-address-wanted
 returns-then-address-wanted c = search (rules, answering)

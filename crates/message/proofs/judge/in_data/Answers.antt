@@ -5,30 +5,30 @@ use Rattle.message.specs.Words.{in_data}
 use Rattle.message.proofs.JudgeLaws.{first_told}
 use Rattle.message.proofs.judge.in_data.Goals as goal
 
-pub returns-then-unsound : goal.returns-then-unsound
+pub returns-then-not-word : goal.returns-then-not-word
 unfolding in_data
-returns-then-unsound c = search (cases, first_told) depth 14 fits 4000
+returns-then-not-word c = search cases depth 14 fits 4000
 
-pub returns-then-unjoined : goal.returns-then-unjoined
+pub returns-then-not-word-2 : goal.returns-then-not-word-2
 unfolding in_data
-returns-then-unjoined c = search (cases, first_told) depth 14 fits 4000
+returns-then-not-word-2 c = search cases depth 14 fits 4000
 
-pub returns-then-takes-taken : goal.returns-then-takes-taken
+pub returns-then-asked-message : goal.returns-then-asked-message
 unfolding in_data
-returns-then-takes-taken c = search (cases, first_told) depth 14 fits 4000
+returns-then-asked-message c = search cases depth 14 fits 4000
 
 pub returns-then-first : goal.returns-then-first
 unfolding in_data
 returns-then-first c = search (cases, first_told) depth 14 fits 4000
 
-pub returns-then-sync : goal.returns-then-sync
+pub returns-then-word : goal.returns-then-word
 unfolding in_data
-returns-then-sync c = search (cases, first_told) depth 14 fits 4000
+returns-then-word c = search (cases, first_told) depth 14 fits 4000
 
-pub returns-then-kept : goal.returns-then-kept
+pub returns-then-message-asked : goal.returns-then-message-asked
 unfolding in_data
-returns-then-kept c = search (cases, first_told) depth 14 fits 4000
+returns-then-message-asked c = search cases depth 14 fits 4000
 
 pub returns : goal.returns
 unfolding in_data
-returns c = search (cases, first_told) depth 14 fits 4000
+returns c = search cases depth 14 fits 4000

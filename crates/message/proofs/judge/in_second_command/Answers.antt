@@ -1,17 +1,16 @@
 -- `message::judge::in_second_command` meets its contract, by the cases of its tests. Assumes
 -- nothing.
-use Rattle.rules.proofs.Cases.{cases}
 use Rattle.message.specs.Words.{in_second_command}
 use Rattle.message.proofs.judge.in_second_command.Goals as goal
 
-pub returns-then-not-sound : goal.returns-then-not-sound
+pub returns-then-not-word : goal.returns-then-not-word
 unfolding in_second_command
-returns-then-not-sound c = search cases depth 9
+returns-then-not-word c = rw c.if-not-word.true
 
-pub returns-then-not-joined : goal.returns-then-not-joined
+pub returns-then-word : goal.returns-then-word
 unfolding in_second_command
-returns-then-not-joined c = search cases depth 9
+returns-then-word c = rw (c.if-not-word.false, c.if-word.true)
 
-pub returns : goal.returns
+pub returns-else-word : goal.returns-else-word
 unfolding in_second_command
-returns c = search cases depth 9
+returns-else-word c = rw (c.if-not-word.false, c.if-word.false)

@@ -3,9 +3,9 @@ use Rattle.rules.proofs.Cases.{cases}
 use Rattle.message.specs.Silence.{on_silence}
 use Rattle.message.proofs.judge.on_silence.Goals as goal
 
-pub returns-then-elsewhere : goal.returns-then-elsewhere
+pub returns-then-line-message : goal.returns-then-line-message
 unfolding on_silence
-returns-then-elsewhere c = search cases depth 9
+returns-then-line-message c = search cases depth 9
 
 pub returns : goal.returns
 unfolding on_silence
