@@ -6,11 +6,5 @@ use Rattle.listrabor.proofs.listrabor_refusal.Goals as goal
 pub returns-then-words-ne-CARD_WORDS : goal.returns-then-words-ne-CARD_WORDS
 returns-then-words-ne-CARD_WORDS c = search (rules, sizes) depth 9
 
-pub returns-then-room-lt-LINE_ROOM : goal.returns-then-room-lt-LINE_ROOM
-returns-then-room-lt-LINE_ROOM c = search (rules, sizes) depth 9
-
-pub returns-then-room-bytes : goal.returns-then-room-bytes
-returns-then-room-bytes c = search (rules, sizes) depth 9
-
 pub returns : goal.returns
 returns c = search (rules, sizes) depth 9
