@@ -1,6 +1,7 @@
 -- Each public contract of the crate allows one outcome alone: one number, and one content of every
 -- cell and byte that was lent. Assumes nothing.
 use Rattle.rules.proofs.Determined.{Determined, DeterminedAs, same}
+use Rattle.refusals.proofs.NumberLaws.{same_refusal}
 use Rattle.listrabor.specs.Lent.{Lent, lent}
 use Rattle.listrabor.proofs.listrabor_room.Kinds as room_kinds
 use Rattle.listrabor.proofs.listrabor_room.Reads as room_reads
@@ -13,7 +14,8 @@ pub room : Determined 0 room_kinds.ps room_kinds.r room_reads.Post
 room κs arguments result result' exit exit' = same
 
 pub refusal : Determined 0 refusal_kinds.ps refusal_kinds.r refusal_reads.Post
-refusal κs arguments result result' exit exit' = same
+refusal κs arguments result result' exit exit' one other =
+    same_refusal result result' (same one other)
 
 pub run :
     DeterminedAs 3 run_kinds.ps run_kinds.r run_reads.Post Lent

@@ -15,21 +15,32 @@ use Rattle.pieces.specs.AsCoded.Runner.{passed_of}
 use Rattle.tray.specs.Run.{Tray, tray_over}
 use Rattle.tray.specs.AsCoded.Window.{Passed, window_run, whole_room}
 use Rattle.tray.specs.AsCoded.Held.{tray_of, held_at_start}
+use Rattle.std.specs.Prelude.{Option}
+use Rattle.std.specs.Option.{is_some}
+use Rattle.refusals.specs.declared.Refusal.{Refusal}
+use Rattle.refusals.specs.Number.{refusal_in}
+use Rattle.refusals.proofs.NumberLaws.{some_refused, none_refused}
 use Rattle.tray_laws.proofs.RoomLaws.{whole_tray, whole_count, whole_bytes}
 use Rattle.listrabor.specs.Lent.{size_refusal, lent, lent_run}
 use Rattle.listrabor.proofs.TextLaws.{used, refused_answers_0}
 
-module _ (recording ram out : List ℕ) (number : ℕ)
-    (is_number : number ≡ size_refusal (length recording) (length ram) (length out)) where
+module _ (recording ram out : List ℕ) (refusal : Option Refusal)
+    (is_number : refusal_in refusal
+    ≡ size_refusal (length recording) (length ram) (length out)) where
   -- ---- sizes that are refused
 
-  pub all_as_it_was : (number ≡ 0 → ⊥) → lent 0 ram out ≡ lent_run recording ram out
-  all_as_it_was other =
-      sym (refused_answers_0 recording ram out (λ none. other (is_number ∙ none)))
+  pub all_as_it_was : (told : Bool) → told ≡ is_some refusal → told ≡ true
+      → lent 0 ram out ≡ lent_run recording ram out
+  all_as_it_was told is some =
+      sym (refused_answers_0 recording ram out (λ none.
+      some_refused refusal (sym is ∙ some) (is_number ∙ none)))
 
   -- ---- sizes that can be used
 
-  module _ (none : number ≡ 0) where
+  module _ (told : Bool) (is_told : told ≡ is_some refusal) (none_told : told ≡ false) where
+    none : refusal_in refusal ≡ 0
+    none = none_refused refusal (sym is_told ∙ none_told)
+
     enough : whole_room (length recording) ≤ length out
     unfolding size_refusal
     enough =

@@ -3,10 +3,12 @@
 #![tactic(auto)]
 
 ghost use Rattle.std.specs.Prelude.{◌≡◌};
+ghost use Rattle.refusals.specs.Number.{refusal_in};
 ghost use Rattle.listrabor.specs.Lent.{room_for, size_refusal, lent, lent_run};
 
 use card::place::CARD_WORDS;
 use lines::LINE_ROOM;
+use refusals::Refusal;
 use tray::Tray;
 
 // The bytes of text that a byte of a recording brings at the most.
@@ -25,21 +27,18 @@ pub fn listrabor_room(bytes: usize) -> usize
     LINE_BYTES * bytes + LINE_ROOM
 }
 
-// The number by which the bytes of a recording, the words of a RAM and the room of a buffer are
-// refused, and 0 where they can be used.
-pub fn listrabor_refusal(bytes: usize, words: usize, room: usize) -> u32
-    ensures { result ≡ size_refusal bytes words room }
+// Why the bytes of a recording, the words of a RAM and the room of a buffer are refused, and none
+// where they can be used.
+pub fn listrabor_refusal(bytes: usize, words: usize, room: usize) -> Option<Refusal>
+    ensures { refusal_in result ≡ size_refusal bytes words room }
 {
     if words != CARD_WORDS {
-        return 1;
+        return Some(Refusal::Memory);
     }
-    if room < LINE_ROOM {
-        return 10;
+    if room < LINE_ROOM || (room - LINE_ROOM) / LINE_BYTES < bytes {
+        return Some(Refusal::Room);
     }
-    if (room - LINE_ROOM) / LINE_BYTES < bytes {
-        return 10;
-    }
-    0
+    None
 }
 
 // Runs a recording. Answers how many bytes of text stand in the buffer then: none where a size is
@@ -48,7 +47,7 @@ pub fn listrabor_run(recording: &[u8], ram: &mut [u16], out: &mut [u8]) -> usize
     ensures { lent result ram.new out.new
         ≡ lent_run recording.now ram.old out.old }
 {
-    if listrabor_refusal(recording.len(), ram.len(), out.len()) != 0 {
+    if listrabor_refusal(recording.len(), ram.len(), out.len()).is_some() {
         return 0;
     }
     let mut tray = Tray::at_start();

@@ -21,7 +21,10 @@ pub extern "C" fn listrabor_room(bytes: usize) -> usize
 pub extern "C" fn listrabor_refusal(bytes: usize, words: usize, room: usize) -> u32
     ensures { result ≡ size_refusal bytes words room }
 {
-    listrabor::listrabor_refusal(bytes, words, room)
+    match listrabor::listrabor_refusal(bytes, words, room) {
+        None => 0,
+        Some(refusal) => u32::from(u8::from(refusal)),
+    }
 }
 
 // Runs a recording. Answers how many bytes of text stand in the buffer then: none where a size is

@@ -3,8 +3,8 @@ use borrow.Author.Rules.{rules}
 use Rattle.listrabor.proofs.RunLaws.{runs}
 use Rattle.listrabor.proofs.listrabor_run.Goals as goal
 
-pub returns-then-listrabor_refusal-ne0 : goal.returns-then-listrabor_refusal-ne0
-returns-then-listrabor_refusal-ne0 c = search (rules, runs) depth 9
+pub returns-then-is_some : goal.returns-then-is_some
+returns-then-is_some c = search (rules, runs) depth 9
 
 pub returns : goal.returns
 returns c = search (rules, runs) depth 9
