@@ -21,6 +21,7 @@ use bus::kind::Kind;
 use bus::{command, kind};
 use card::place::Cell;
 
+// Cells and codes stay numbers: a narrower type would ask more of callers.
 #[derive(Clone, Copy)]
 pub struct Asked {
     // words are skipped until silence, and message error is set at once

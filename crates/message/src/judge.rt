@@ -1,4 +1,5 @@
 // What a word or a silence does to an open message: the decision alone, which looks at no memory.
+// Counts and fault codes stay numbers: a narrower type would ask more of callers.
 ghost use Rattle.std.specs.Prelude.{◌≡◌};
 ghost use Rattle.message.specs.Words.{
   own_command,

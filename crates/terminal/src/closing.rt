@@ -1,4 +1,6 @@
-// Closing a message: by a fault, or by its sound end.
+// Closing a message: by a fault, or by its sound end. A message goes beside what it asks, which is
+// told once, as the definitions of closing take both. A fault code stays a number: a narrower type
+// would ask more of callers.
 ghost use Rattle.std.specs.Prelude.{◌≡◌, cond, true, false, eqb};
 ghost use Rattle.terminal.specs.State.{card};
 ghost use Rattle.terminal.specs.Closing.{
