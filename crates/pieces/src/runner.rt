@@ -49,8 +49,9 @@ pub trait Runner {
         ensures { TurnsTaken course window.now room most (run_of self.old ram.old) at
             result.left (run_of self.new ram.new) result.at };
 
-    // Takes the field at a place, and prints its line. `None` is the end of the bytes. That and a
-    // refusal change nothing.
+    // Takes the field at a place, and prints its line. The place in the buffer alone is given and
+    // answered, since a call over a window keeps it beside the run. `None` is the end of the bytes.
+    // That and a refusal change nothing.
     fn take_field(
         &mut self,
         ram: &mut [u16],
