@@ -13,7 +13,8 @@ pub struct Took {
     pub put: usize,
 }
 
-// Where fields that were taken at once have led: the place behind them, and how many turns are left.
+// Where fields that were taken at once have led: the place behind them, and how many turns are
+// left.
 #[derive(Clone, Copy)]
 pub struct Went {
     pub at: usize,
@@ -37,7 +38,8 @@ pub trait Runner {
     fn offset(&self) -> u64
         ensures { (ram : List ℕ) → result ≡ course.offset (run_of self.now ram) };
 
-    // Takes some of the fields that stand next at once, or none. Each is a turn that prints nothing.
+    // Takes some of the fields that stand next at once, or none. Each is a turn that prints
+    // nothing.
     fn take_row(
         &mut self,
         ram: &mut [u16],
