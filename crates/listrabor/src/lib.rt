@@ -42,7 +42,7 @@ pub fn listrabor_refusal(bytes: usize, words: usize, room: usize) -> Option<Refu
 }
 
 // Runs a recording. Answers how many bytes of text stand in the buffer then: none where a size is
-// refused, and nothing is touched then.
+// refused, and nothing is touched then. A count and no `Result`: C is handed the same.
 pub fn listrabor_run(recording: &[u8], ram: &mut [u16], out: &mut [u8]) -> usize
     ensures { lent result ram.new out.new
         ≡ lent_run recording.now ram.old out.old }

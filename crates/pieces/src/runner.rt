@@ -13,7 +13,8 @@ pub struct Took {
     pub put: usize,
 }
 
-// Where fields that were taken at once have led: the place behind them, and how many turns are left.
+// Where fields that were taken at once have led: the place behind them, and how many turns are
+// left.
 #[derive(Clone, Copy)]
 pub struct Went {
     pub at: usize,
@@ -37,7 +38,8 @@ pub trait Runner {
     fn offset(&self) -> u64
         ensures { (ram : List ℕ) → result ≡ course.offset (run_of self.now ram) };
 
-    // Takes some of the fields that stand next at once, or none. Each is a turn that prints nothing.
+    // Takes some of the fields that stand next at once, or none. Each is a turn that prints
+    // nothing.
     fn take_row(
         &mut self,
         ram: &mut [u16],
@@ -49,8 +51,9 @@ pub trait Runner {
         ensures { TurnsTaken course window.now room most (run_of self.old ram.old) at
             result.left (run_of self.new ram.new) result.at };
 
-    // Takes the field at a place, and prints its line. `None` is the end of the bytes. That and a
-    // refusal change nothing.
+    // Takes the field at a place, and prints its line. The place in the buffer alone is given and
+    // answered, since a call over a window keeps it beside the run. `None` is the end of the bytes.
+    // That and a refusal change nothing.
     fn take_field(
         &mut self,
         ram: &mut [u16],

@@ -73,6 +73,7 @@ pub fn run_window<R: Runner>(
         put: 0,
         stop: Stop::Going,
     };
+    // counted down by hand: a row takes many turns at once
     let mut turns = u64::MAX;
     while turns > 0 && passed.stop.is_going() {
         let room = out.len().saturating_sub(passed.put);
