@@ -186,7 +186,7 @@ pub nothing_is_cut : (run : HeldTray) (ram : List ℕ) (empty stated full : Page
     → Fits empty (state_text run) stated → Fits stated (cell_lines 0 ram) full
     → take full.at full.out.now ≡ state_text run ++ cell_lines 0 ram
 nothing_is_cut run ram empty stated full few cells start room state rest =
-    put_whole empty (state_text run places ++ cell_lines 0 ram) full (fits_then state rest) start
+    put_whole empty (state_text run ++ cell_lines 0 ram) full (fits_then state rest) start
     (omega (
       arith,
       (both (of_state run) (of_cells 0 ram)).bound,
