@@ -105,6 +105,9 @@ fn perform(action: Action, terminal: &mut Terminal, ram: &mut [u16]) -> u8 {
 
 // ---- the cases
 
+// The bytes of a row and of what the call must leave, at the most.
+const CALL_BYTES: usize = 4096;
+
 // What a call leaves, over as much of a RAM as the row says.
 fn put_call(out: &mut Bytes, given: &[u8]) {
     let row = notation::row_of(given);
@@ -130,5 +133,5 @@ fn put_call(out: &mut Bytes, given: &[u8]) {
 pub(crate) fn holds(before: &[u8], case: &[u8]) -> bool {
     let (row, rest) = notation::cut(case, b'=');
     let (state, _remark) = notation::cut(rest, b'#');
-    notation::leaves(before, row, b"", state, put_call)
+    notation::leaves(before, row, b"", state, CALL_BYTES, put_call)
 }

@@ -16,13 +16,26 @@ use std::io;
 use std::io::Read;
 
 // How many bytes of a text are read: one of more is cut, and the counts tell.
-const TEXT_BYTES: u64 = 524288;
+const TEXT_BYTES: usize = 524288;
+
+// Reads until the text is full or the input has ended, and answers how many bytes came.
+fn read_full<I: Read>(input: &mut I, text: &mut [u8]) -> io::Result<usize> {
+    let mut size = 0;
+    // a read may bring less than there is room for, so no `for` counts them
+    while size < text.len() {
+        match input.read(&mut text[size..])? {
+            0 => break,
+            count => size += count,
+        }
+    }
+    Ok(size)
+}
 
 fn main(rt: HostRuntime) -> io::Result<()> {
-    // the one thing that is on the heap
-    let mut text = Vec::new(rt.alloc());
-    rt.stdin().take(TEXT_BYTES).read_to_end(&mut text)?;
+    let mut bytes = [0; TEXT_BYTES];
+    let text: &mut [u8] = &mut bytes;
+    let size = read_full(&mut rt.stdin(), text)?;
     let mut output = rt.stdout();
-    let all = groups::run(&mut output, text.as_slice())?;
+    let all = groups::run(&mut output, text.get(..size).unwrap_or(&[]))?;
     all.print(&mut output, b"vectors")
 }

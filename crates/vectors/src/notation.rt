@@ -46,8 +46,11 @@ pub(crate) fn cut(text: &[u8], byte: u8) -> (&[u8], &[u8]) {
 
 // ---- what is left
 
+// Puts each byte that there is room for.
 pub(crate) fn put_bytes(out: &mut Bytes, bytes: &[u8]) {
-    let _ = out.try_extend_from_slice(bytes);
+    for &byte in bytes {
+        let _ = out.try_push(byte);
+    }
 }
 
 // Puts words, high byte first.
@@ -78,7 +81,7 @@ fn digit(byte: u8) -> Option<u8> {
 }
 
 // Puts the bytes that a text's hex digits spell, two by two; every other byte is for the eye.
-pub(crate) fn put_hex(out: &mut Bytes, text: &[u8]) {
+fn put_hex(out: &mut Bytes, text: &[u8]) {
     let mut high: Option<u8> = None;
     for low in text.iter().filter_map(|&byte| digit(byte)) {
         match high.take() {
@@ -99,13 +102,14 @@ pub(crate) fn row_of(bytes: &[u8]) -> Row {
 // ---- a case
 
 // Whether a case leaves what it should. Given are the bytes that its text spells, behind those that
-// its group begins with; it must leave the lines and then the bytes that the state spells. One that
-// cannot be run leaves nothing.
+// its group begins with; it must leave the lines and then the bytes that the state spells. What is
+// given and the state have so much room together. One that cannot be run leaves nothing.
 pub(crate) fn leaves<F: Fn(&mut Bytes, &[u8])>(
     before: &[u8],
     text: &[u8],
     lines: &[u8],
     state: &[u8],
+    room: usize,
     put_left: F,
 ) -> bool
     requires { F.IsAlwaysCallable put_left }
@@ -113,9 +117,17 @@ pub(crate) fn leaves<F: Fn(&mut Bytes, &[u8])>(
     let mut bytes = Bytes::new();
     put_hex(&mut bytes, before);
     put_hex(&mut bytes, text);
+    bytes.truncate(room);
     let mut left = Bytes::new();
     put_left(&mut left, bytes.as_slice());
     let given = bytes.len();
     put_hex(&mut bytes, state);
-    !left.is_empty() && left.as_slice().strip_prefix(lines) == bytes.as_slice().get(given..)
+    bytes.truncate(room);
+    // the lines are looked for where zeros stand behind what is left
+    let mut printed = [0; CASE_BYTES];
+    printed[..left.len()].copy_from_slice(left.as_slice());
+    !left.is_empty()
+        && printed.starts_with(lines)
+        && left.as_slice().get(lines.len()..).unwrap_or(&[])
+            == bytes.as_slice().get(given..).unwrap_or(&[])
 }

@@ -55,5 +55,5 @@ pub(crate) fn holds(before: &[u8], case: &[u8]) -> bool {
     let (text, rest) = notation::cut(rest, b'>');
     let (_, rest) = notation::cut(rest, b'\n');
     let (lines, state) = notation::cut(rest, b'=');
-    notation::leaves(before, text, lines, state, put_run)
+    notation::leaves(before, text, lines, state, CASE_BYTES, put_run)
 }
