@@ -52,7 +52,7 @@ fn columns(given: u16, behind: u16, status: bool, reply: u16, last: bool) -> For
 impl Row {
     // The table. C is a command, S a status, D data, `/` a silence; what has `*` is not there in
     // broadcast; n is what the command says that speaks of the data.
-    #[tactic(auto, using(bus::proofs::CommandLaws::words_at_most), unfolding(crate::specs::Row::format_of))]
+    #[tactic(auto, unfolding(crate::specs::Row::format_of))]
     pub fn format(self, broadcast: bool, command: u16) -> Format
         ensures { result ≡ format_of self broadcast (words_of command) }
     {

@@ -44,8 +44,8 @@ module _ {Run : Type 0} (course : Course Run) (window : List ℕ) (last : Bool) 
       ≡ turn course window last (going_at old at into out)
   turn_full = general.turn_full course window last (going_at old at into out)
 
-  module _ (enough : line_room ≤ length out - into) (answer : Result (Option Took) Refusal) (new : Run)
-      (out' : List ℕ)
+  module _ (enough : line_room ≤ length out - into)
+      (answer : Result (Option Took) Refusal) (new : Run) (out' : List ℕ)
       (is : field_left answer new out' ≡ field_run (course.meets old window at) old out into) where
     by_met : (made : Passed Run)
         → ((met : Met Run) → field_left answer new out' ≡ field_run met old out into

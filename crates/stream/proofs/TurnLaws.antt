@@ -23,7 +23,17 @@ use Rattle.pieces.proofs.EndLaws.{call_stops, full_after_a_field}
 use Rattle.pieces.proofs.HungryLaws.{hungry_few}
 use Rattle.pieces.proofs.WindowLaws.{call_is_over}
 use Rattle.pieces.proofs.PieceLaws.{streamed_prints}
-use Rattle.stream.specs.Progress.{buffer_bytes, Far, after_call, with_piece, at_end, Progressed, takes, feeds, finds_end}
+use Rattle.stream.specs.Progress.{
+  buffer_bytes,
+  Far,
+  after_call,
+  with_piece,
+  at_end,
+  Progressed,
+  takes,
+  feeds,
+  finds_end,
+}
 use Rattle.stream.specs.Came.{LastCall, Came, finished, broken_off, unread}
 use Rattle.stream.specs.Known.{PrintedAll}
 use Rattle.stream.specs.AsCoded.Turns.{Left, behind, Settled, Turned}
@@ -181,7 +191,8 @@ module _ {Run Error : Type 0} (course : Course Run) {longest : ℕ} (steady : St
       })
 
   -- all that the input had to give is printed
-  is_printed : (call).stop ≡ Over → Appends before.held known'.held (so_far.text ++ lines_put (call))
+  is_printed : (call).stop ≡ Over
+      → Appends before.held known'.held (so_far.text ++ lines_put (call))
       → IfSome before.given (PrintedAll course start new before.held known'.held)
   unfolding call
   is_printed is wrote = go before.given known.given so_far.read so_far.at_end where
@@ -242,7 +253,8 @@ module _ {Run Error : Type 0} (course : Course Run) {longest : ℕ} (steady : St
           more : (piece : List ℕ) → Consumes known.given known'.given piece
               → Consumes before.given known'.given (so_far.input ++ piece)
           more piece consumed =
-              consumes_more before.given known.given known'.given so_far.input piece so_far.read consumed
+              consumes_more before.given known.given known'.given so_far.input piece so_far.read
+              consumed
 
           by_piece : Appends before.held known'.held (so_far.text ++ lines_put (call))
               → (piece : List ℕ) → left' ≡ turn.with_piece piece (behind (call).at left)
@@ -269,4 +281,5 @@ module _ {Run Error : Type 0} (course : Course Run) {longest : ℕ} (steady : St
               refl (ap (λ (any : Left). any.bytes) (sym is_left))
               (ap (λ (any : Left). any.ended) (sym is_left))
               (more (byte ∷ rest) consumed)
-              (λ ended. absurd (true≢false (sym ended ∙ ap (λ (any : Left). any.ended) is_left))) all
+              (λ ended. absurd (true≢false (sym ended ∙ ap (λ (any : Left). any.ended) is_left)))
+              all

@@ -7,7 +7,16 @@ use Prim.Native.Nat.{ℕ, ◌+◌, ◌-◌, ◌≤◌, ◌<◌}
 use native.Mathlib.Omega.{arith}
 use lib.Dec.{eqb}
 use lib.ListN.{length, take, drop}
-use lib.Seq.{sets, slice, sets-eq, length-slice, length-take-le, take_at, take-append-le, take-append-add}
+use lib.Seq.{
+  sets,
+  slice,
+  sets-eq,
+  length-slice,
+  length-take-le,
+  take_at,
+  take-append-le,
+  take-append-add,
+}
 use borrow.Author.Tests.{le-leb, eq-eqb, ne_eqb}
 use borrow.Rule.Slice.PartMut.{put_mid}
 use Rattle.std.specs.Prelude.{Option}
@@ -77,7 +86,8 @@ read_on bytes part have room count ended old given given' is_old inside size cou
           record { bytes = left; ended = is_nothing (take count part) })
           (ap (λ (size : ℕ). take (size + count) (take have bytes ++ (part ++ rest))) (sym front)
           ∙ take-append-add (take have bytes) (part ++ rest) count
-          ∙ ap (λ (more : List ℕ). take have bytes ++ more) (take-append-le count part rest counts)));
+          ∙ ap (λ (more : List ℕ). take have bytes ++ more)
+          (take-append-le count part rest counts)));
       given_lem = consumed.0;
       at_end =
           λ none room_left.

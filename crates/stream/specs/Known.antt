@@ -1,5 +1,5 @@
--- What a run has written where the bytes of its input are known, as those of a buffer in memory are:
--- of standard input they are not. Definitions only. Assumes nothing.
+-- What a run has written where the bytes of its input are known, as those of a buffer in memory
+-- are: of standard input they are not. Definitions only. Assumes nothing.
 use Rattle.std.specs.Prelude.{◌≡◌, Bool, true, List, ℕ, Option, IfSome}
 use Rattle.std.specs.Io.KnownBytes.{Appends}
 use Rattle.pieces.specs.Course.{Course}

@@ -1,7 +1,24 @@
 -- What `take_row` leaves: the turns that are left lead where all of them led (`row_taken_lem`), by
 -- the law of every row: a data word is a field that prints nothing, and the terminal stores a row
 -- as so many words. Assumes nothing.
-use Rattle.std.proofs.Common.{◌≡◌, ℕ, ◌+◌, ◌-◌, ◌*◌, Bool, true, ◌≢◌, List, map, sym, refl, ap, ◌∙◌, arith, Some}
+use Rattle.std.proofs.Common.{
+  ◌≡◌,
+  ℕ,
+  ◌+◌,
+  ◌-◌,
+  ◌*◌,
+  Bool,
+  true,
+  ◌≢◌,
+  List,
+  map,
+  sym,
+  refl,
+  ap,
+  ◌∙◌,
+  arith,
+  Some,
+}
 use Rattle.bus.specs.declared.word.Word.{Word}
 use Rattle.message.specs.declared.state.OpenMessage.{OpenMessage}
 use Rattle.message.specs.Wants.{wants}

@@ -1,5 +1,5 @@
--- A tray run through a window of the recording: the call of `pieces`, over the course of a tray run.
--- Definitions only. Assumes nothing.
+-- A tray run through a window of the recording: the call of `pieces`, over the course of a tray
+-- run. Definitions only. Assumes nothing.
 use Rattle.std.specs.Prelude.{ℕ, Bool, List}
 use Rattle.pieces.specs.AsCoded.Window as pieces
 use Rattle.tray.specs.Run.{Tray, tray_course}

@@ -13,7 +13,8 @@ unfolding move_table_action
 returns-in_err-refusal c =
     let error = err_from_is_err_and c.from_residual.result c.from_residual.ensures.1 in
     rw (error.1, error.2)
-    (alone_refused _ _ TableBlock _ (move_table (the_block c.args.table)) _ c.in_err-refusal.ensures)
+    (alone_refused _ _ TableBlock _ (move_table (the_block c.args.table)) _
+    c.in_err-refusal.ensures)
 
 pub returns : goal.returns
 unfolding move_table_action move_table_step step
