@@ -21,6 +21,7 @@ use Rattle.std.proofs.Common.{
 }
 use Rattle.std.specs.Option.{is_some}
 use Rattle.rules.proofs.Clash.{clash}
+use Rattle.std.specs.Result.{result_unwrap_or}
 use Rattle.refusals.specs.declared.Refusal.{Refusal}
 use Rattle.refusals.specs.declared.Refusal.TheVariants.{
   Memory,
@@ -107,3 +108,19 @@ same_answer {A} one other same_number same_outcome =
     ∙ ap (λ (any : ℕ). answer_of (refusal_of any) (outcome_in one)) same_number
     ∙ ap (λ (any : Option A). answer_of (refusal_of (refused other)) any) same_outcome
     ∙ answered other
+
+-- ---- an action that gives something back: its number and that, or another thing where it is
+-- refused, tell what it answered
+
+pub same_given : {A : Type 0} (none : A) (one other : Result A Refusal)
+    → refused one ≡ refused other → result_unwrap_or one none ≡ result_unwrap_or other none
+    → one ≡ other
+same_given none (Ok done) (Ok done') same_number same = ap Ok same
+same_given none (Ok done) (Err refusal) same_number same =
+    absurd (some_refused (Some refusal) refl (sym same_number))
+same_given none (Err refusal) (Ok done) same_number same =
+    absurd (some_refused (Some refusal) refl same_number)
+same_given none (Err refusal) (Err refusal') same_number same =
+    let both : Some refusal ≡ Some refusal' =
+    same_refusal (Some refusal) (Some refusal') same_number in
+    cc

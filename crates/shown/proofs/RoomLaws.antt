@@ -13,11 +13,12 @@ use Rattle.bits.specs.Bit.{weight_of}
 use Rattle.lines.specs.Digits.{hex_byte, hex_word, decimal}
 use Rattle.lines.specs.Lines.{blank, newline}
 use Rattle.lines.specs.Written.{Put, stored}
+use Rattle.lines.specs.Page.{on}
 use Rattle.lines.specs.declared.Page.{Page}
 use Rattle.lines.proofs.DecimalLaws.{length_decimal}
 use Rattle.lines.proofs.Lengths.{length_hex_byte, length_hex_word}
 use Rattle.lines.proofs.WrittenLaws.{in_room, take_written}
-use Rattle.shown.specs.Text.{fitted, Fits}
+use Rattle.shown.specs.Text.{fitted}
 use Rattle.shown.specs.Item.{item, mark_text}
 use Rattle.shown.specs.Cells.{cell_text, cell_lines}
 
@@ -82,12 +83,13 @@ of_cells address (word ∷ words) =
 -- ---- a buffer
 
 -- a text that has room is put whole
-pub put_whole : (old : Page) (text : List ℕ) (new : Page) → Fits old text new → old.at ≡ 0
+pub put_whole : (old : Page) (text : List ℕ) (new : Page)
+    → on new ≡ fitted old.out.now old.at text → old.at ≡ 0
     → length text ≤ length old.out.now → take new.at new.out.now ≡ text
 unfolding fitted
-put_whole old text new fits start enough =
+put_whole old text new is_fitted start enough =
     ap (λ (left : Put). take left.next left.bytes)
-    (fits.is_fitted
+    (is_fitted
     ∙ ap (λ (all : List ℕ). stored old.out.now old.at all)
     (take_all (length old.out.now - old.at) text (omega arith))
     ∙ sym (in_room (length text) old.out.now old.at text (omega arith)))

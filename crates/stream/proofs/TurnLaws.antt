@@ -225,10 +225,10 @@ module _ {Run Error : Type 0} (course : Course Run) {longest : ℕ} (steady : St
 
     go : Settled (call) left left' known.given known'.given told
         → After course start before (suc turns) new left' known' told
-    go (turn.breaks_off some failed) =
+    go (turn.breaks_off some kept unread_lem failed) =
         by_failure course start before (suc turns) new left' known' told failed
         (broken_off last some)
-    go (turn.unread is failed) =
+    go (turn.unread is is_left failed) =
         by_failure course start before (suc turns) new left' known' told failed (unread last is)
     go (turn.ends is is_told) =
         let printed = is_printed is (wrote is_told) in
@@ -247,8 +247,8 @@ module _ {Run Error : Type 0} (course : Course Run) {longest : ℕ} (steady : St
         refl (ap (λ (any : Left). any.bytes) (sym is_left))
         (ap (λ (any : Left). any.ended) (sym is_left))
         (rw same so_far.read) (rw (same, is_left) so_far.at_end) all)
-    go (turn.reads {after = after} is is_after read is_told) =
-        rw is_told (by_piece (wrote is_told) read.piece (rw is_after at read.is_new) read.given_lem
+    go (turn.reads {after = after} is is_after room read is_told) =
+        rw is_told (by_piece (wrote is_told) read.piece (rw is_after at read.is_new) read.is_given
         (rw is_after at read.at_end)) where
           more : (piece : List ℕ) → Consumes known.given known'.given piece
               → Consumes before.given known'.given (so_far.input ++ piece)

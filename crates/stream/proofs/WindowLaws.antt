@@ -88,7 +88,7 @@ read_on bytes part have room count ended old given given' is_old inside size cou
           ∙ take-append-add (take have bytes) (part ++ rest) count
           ∙ ap (λ (more : List ℕ). take have bytes ++ more)
           (take-append-le count part rest counts)));
-      given_lem = consumed.0;
+      is_given = consumed.0;
       at_end =
           λ none room_left.
           consumed.1 (sym long ∙ ap length none)

@@ -17,7 +17,7 @@ mod window;
 use crate::window::{BUFFER_BYTES, Window};
 use pieces::{Runner, Stop};
 use std::io;
-use std::io::{Read, Write};
+use std::io::{ErrorKind, Read, Write};
 
 // Writes the lines of a call, which cannot fail where there are none.
 fn write_lines<O: Write>(output: &mut O, lines: &[u8]) -> io::Result<()>
@@ -54,6 +54,10 @@ fn turn<R: Runner, I: Read, O: Write>(
         Stop::Over => Ok(true),
         Stop::Going | Stop::Full => Ok(false),
         Stop::Hungry => {
+            // no steady course needs bytes with a full window, and one that did breaks off
+            if window.is_full() {
+                return Err(ErrorKind::StorageFull.into());
+            }
             window.read(input)?;
             Ok(false)
         }

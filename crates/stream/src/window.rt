@@ -31,7 +31,7 @@ impl Model for Window {
 }
 
 impl Window {
-    ghost use Rattle.std.specs.Prelude.{◌≡◌, ◌≤◌, length, OnOk};
+    ghost use Rattle.std.specs.Prelude.{◌≡◌, ◌≤◌, leb, length, OnOk, OnErr};
     ghost use Rattle.stream.specs.Progress.{buffer_bytes};
     ghost use Rattle.stream.specs.AsCoded.Turns.{nothing_left, behind, ReadOn};
 
@@ -65,10 +65,18 @@ impl Window {
         self.have = pieces::keep_rest(&mut self.bytes, at, self.have);
     }
 
+    // A read without room would look like the end of the input.
+    pub(crate) fn is_full(&self) -> bool
+        ensures { result ≡ leb buffer_bytes (length self.now.bytes) }
+    {
+        self.have == BUFFER_BYTES
+    }
+
     // One more piece behind the bytes that are there. One of no bytes is the end of the input.
     pub(crate) fn read<I: Read>(&mut self, input: &mut I) -> io::Result<()>
-        ensures { OnOk result
+        ensures read { OnOk result
             (ReadOn self.old self.new (I.remaining input.old) (I.remaining input.new)) }
+        ensures kept { OnErr result (self.new ≡ self.old) }
     {
         let count = input.read(&mut self.bytes[self.have..])?;
         self.have += count;

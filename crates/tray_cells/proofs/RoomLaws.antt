@@ -1,7 +1,7 @@
 -- What the program prints of state and cells is whole: both texts have room in its buffer, so that
 -- `fitted` cuts nothing. Assumes nothing.
 use Rattle.std.proofs.Common.{None, Option, Some}
-use mathlib.Core.Path.{◌≡◌}
+use mathlib.Core.Path.{◌≡◌, refl}
 use mathlib.Core.Bool.{Bool, true, false, cond}
 use mathlib.Core.List.{List, [], ◌∷◌, ◌++◌}
 use Prim.Native.Nat.{ℕ, zero, suc, ◌+◌, ◌*◌, ◌/◌, ◌%◌, ◌≤◌}
@@ -22,9 +22,10 @@ use Rattle.message.specs.declared.state.OpenMessage.{OpenMessage}
 use Rattle.terminal.specs.declared.state.Core.{Core}
 use Rattle.queue.specs.declared.Queue.{Queue}
 use Rattle.lines.specs.Lines.{blank, newline}
+use Rattle.lines.specs.Page.{on}
 use Rattle.lines.specs.declared.Page.{Page}
 use Rattle.tray.specs.declared.run.Tray.{Tray as HeldTray}
-use Rattle.shown.specs.Text.{bytes, Fits}
+use Rattle.shown.specs.Text.{bytes, fitted, Fits}
 use Rattle.shown.specs.Item.{item}
 use Rattle.shown.specs.Cells.{cell_lines}
 use Rattle.shown.proofs.TextLaws.{fits_then}
@@ -178,15 +179,28 @@ of_state run = go run.seen.setup where
 
 -- ---- the program's buffer
 
+-- a page as it stands, over the buffer of another
+abbrev over : Page → Page → Page
+over other page =
+    record page { out = record page.out { ghost_name = other.out.ghost_name } }
+
 -- the state, then the cells, are all of what the program prints behind a run's lines; no more than
 -- 256 blocks wait, since a run leaves a fit terminal
 pub nothing_is_cut : (run : HeldTray) (ram : List ℕ) (empty stated full : Page)
     → run.queue.ring.count ≤ queue_places → length ram ≡ 16384
     → empty.at ≡ 0 → length empty.out.now ≡ 172032
-    → Fits empty (state_text run) stated → Fits stated (cell_lines 0 ram) full
+    → on stated ≡ fitted empty.out.now empty.at (state_text run)
+    → on full ≡ fitted stated.out.now stated.at (cell_lines 0 ram)
     → take full.at full.out.now ≡ state_text run ++ cell_lines 0 ram
 nothing_is_cut run ram empty stated full few cells start room state rest =
-    put_whole empty (state_text run ++ cell_lines 0 ram) full (fits_then state rest) start
+    let one : Page = over empty stated in
+    let both_put : Page = over empty full in
+    let state_fits : Fits empty (state_text run) one =
+    record { same_buffer = refl; is_fitted = state } in
+    let rest_fits : Fits one (cell_lines 0 ram) both_put =
+    record { same_buffer = refl; is_fitted = rest } in
+    put_whole empty (state_text run ++ cell_lines 0 ram) full
+    (fits_then state_fits rest_fits).is_fitted start
     (omega (
       arith,
       (both (of_state run) (of_cells 0 ram)).bound,

@@ -1,4 +1,5 @@
 -- `stream::turn` meets its contract: a law for each way that it goes. Assumes nothing.
+use borrow.Author.Tests.{leb-false}
 use Rattle.std.proofs.Common.{refl, sym, inl, inr, ◌∙◌}
 use Rattle.pieces.proofs.StopLaws.{going_over, going_hungry, full_over, full_hungry}
 use Rattle.stream.specs.AsCoded.Turns.{breaks_off, unread, ends, stays, reads}
@@ -10,7 +11,7 @@ returns-in_err-write_lines g c =
     turned _ _ _ _ _ _ _ _ _ c.bytes.ensures.few c.bytes.ensures.same c.has_ended.ensures
     c.run_window-passed.ensures _ _ _ _ _ _
     (none_written _ c.from_residual.result c.from_residual.ensures.0)
-    (breaks_off (some_put _ _ _ c.min.ensures (c.in_err-write_lines.ensures.some refl))
+    (breaks_off (some_put _ _ _ c.min.ensures (c.in_err-write_lines.ensures.some refl)) refl refl
     c.from_residual.ensures.0)
 
 pub returns-in_err-read-in-Hungry : goal.returns-in_err-read-in-Hungry
@@ -18,7 +19,8 @@ returns-in_err-read-in-Hungry g c =
     turned _ _ _ _ _ _ _ _ _ c.bytes.ensures.few c.bytes.ensures.same c.has_ended.ensures
     c.run_window-passed.ensures _ _ _ _ _ _
     (none_written _ _ c.from_residual-in_err-read-in-Hungry.ensures.0)
-    (unread c.in-Hungry.is c.from_residual-in_err-read-in-Hungry.ensures.0)
+    (unread c.in-Hungry.is (c.in_err-read-in-Hungry.ensures.kept ∙ c.take_to.ensures)
+    c.from_residual-in_err-read-in-Hungry.ensures.0)
 
 pub returns-in-Over : goal.returns-in-Over
 returns-in-Over g c =
@@ -46,4 +48,6 @@ returns-in_ok-read-in-Hungry g c =
     turned _ _ _ _ _ _ _ _ _ c.bytes.ensures.few c.bytes.ensures.same c.has_ended.ensures
     c.run_window-passed.ensures _ _ _ _ _ _
     (lines_written _ _ _ _ _ c.min.ensures c.in_ok-write_lines.ensures.written)
-    (reads c.in-Hungry.is c.take_to.ensures c.in_ok-read-in-Hungry.ensures refl)
+    (reads c.in-Hungry.is c.take_to.ensures
+    (leb-false _ _ (sym c.is_full.ensures ∙ c.if-is_full.false))
+    c.in_ok-read-in-Hungry.ensures.read refl)

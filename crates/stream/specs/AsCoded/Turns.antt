@@ -53,25 +53,28 @@ with_piece piece old = record { bytes = old.bytes ++ piece; ended = is_nothing p
 pub record ReadOn (old new : Left) (given given' : Option (List ℕ)) : Type 0 where
   pub piece : List ℕ
   pub is_new : new ≡ with_piece piece old
-  pub given_lem : Consumes given given' piece
+  pub is_given : Consumes given given' piece
   pub at_end : piece ≡ [] → length old.bytes < buffer_bytes → IsAtEnd given'
 
 -- ---- what a call leaves to do
 
 pub data Settled {Run Error : Type 0} (call : Passed Run) (old new : Left)
     (given given' : Option (List ℕ)) (told : Result Bool Error) : Type 0 where
-  -- its lines were not all taken, be they the last of the run
-  breaks_off : call.put ≢ 0 → IsErr told → Settled call old new given given' told
-  -- a read failed
-  unread : call.stop ≡ Hungry → IsErr told → Settled call old new given given' told
+  -- its lines were not all taken, be they the last of the run: nothing is read
+  breaks_off : call.put ≢ 0 → new ≡ old → given' ≡ given → IsErr told
+      → Settled call old new given given' told
+  -- it needed bytes, and a read failed, or there was no room for one
+  unread : call.stop ≡ Hungry → new ≡ behind call.at old → IsErr told
+      → Settled call old new given given' told
   -- the run is over
   ends : call.stop ≡ Over → told ≡ Ok true → Settled call old new given given' told
   -- it had no room for more
   stays : call.stop ≢ Over → call.stop ≢ Hungry → new ≡ behind call.at old → given' ≡ given
       → told ≡ Ok false → Settled call old new given given' told
-  -- it needed bytes, and a piece was read
+  -- it needed bytes, there was room, and a piece was read
   reads : {after : Left} → call.stop ≡ Hungry → after ≡ behind call.at old
-      → ReadOn after new given given' → told ≡ Ok false → Settled call old new given given' told
+      → length after.bytes < buffer_bytes → ReadOn after new given given' → told ≡ Ok false
+      → Settled call old new given given' told
 
 -- a turn is a call, and what it leaves to do; unless it fails, what the output holds, where that is
 -- known, has grown by the lines of the call

@@ -4,8 +4,8 @@ use Rattle.std.proofs.Common.{rules, arith, ◌≤◌, length}
 use Rattle.stream.proofs.WindowLaws.{read_on}
 use Rattle.stream.proofs.window.Window.read.Goals as goal
 
-pub returns : goal.returns
-returns g c =
+pub returns-clause-read : goal.returns-clause-read
+returns-clause-read g c =
     let inside : c.self.inside.have ≤ length c.self.inside.bytes =
     omega (arith, c.self.told, c.self.invariant) in
     read_on c.self.inside.bytes c.read.new.buf c.self.inside.have _ c.in_ok-count.count
