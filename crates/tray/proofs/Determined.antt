@@ -2,6 +2,7 @@
 -- and byte that was lent. Assumes nothing.
 use mathlib.Core.List.{[]}
 use Rattle.rules.proofs.Determined.{Determined, DeterminedAs, same}
+use Rattle.lines.specs.Page.{on}
 use Rattle.pieces.specs.AsCoded.Runner.{FieldLeft, field_left}
 use Rattle.tray.specs.Run.{Tray}
 use Rattle.tray.specs.AsCoded.Held.{tray_of}
@@ -26,7 +27,6 @@ pub offset : Determined 1 offset_kinds.ps offset_kinds.r offset_reads.Post
 offset κs arguments result result' exit exit' is is' = same (is []) (is' [])
 
 pub take_field :
-    DeterminedAs 4 take_field_kinds.ps take_field_kinds.r take_field_reads.Post (FieldLeft Tray)
-    (λ κs result exit.
-    field_left result (tray_of exit.0.now exit.1.0.now) exit.1.1.1.1.0.now)
-take_field κs arguments result result' exit exit' = same
+    DeterminedAs 5 take_field_kinds.ps take_field_kinds.r take_field_reads.Post (FieldLeft Tray)
+    (λ κs result exit. field_left result (tray_of exit.0.now exit.1.0.now) (on exit.1.1.1.1.0.now))
+take_field κs arguments result result' exit exit' is is' = same is.is_wanted is'.is_wanted
