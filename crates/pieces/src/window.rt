@@ -18,32 +18,30 @@ pub struct Passed {
     pub stop: Stop,
 }
 
-// One field, if there is room for its line.
+// One field, if there is room for its line. Answers the place behind it, or the same, and whether
+// and why the call stops.
 fn turn<R: Runner>(
     run: &mut R,
     ram: &mut [u16],
     window: &[u8],
     last: bool,
-    at: &mut usize,
+    at: usize,
     page: &mut Page,
-) -> Stop
+) -> (usize, Stop)
     ensures { OnPage page.old page.new
-        (passed (R.run_of run.new ram.new) at.new (on page.new) result)
+        (passed (R.run_of run.new ram.new) result.0 (on page.new) result.1)
         (turn R.course window.now last
-        (going_at (R.run_of run.old ram.old) at.old page.old.at page.old.out.now)) }
+        (going_at (R.run_of run.old ram.old) at page.old.at page.old.out.now)) }
 {
     if page.out.len().saturating_sub(page.at) < LINE_ROOM {
-        return Stop::Full;
+        return (at, Stop::Full);
     }
-    let number = match run.take_field(ram, window, *at, page) {
-        Ok(Some(next)) => {
-            *at = next;
-            return Stop::Going;
-        }
+    let number = match run.take_field(ram, window, at, page) {
+        Ok(Some(next)) => return (next, Stop::Going),
         Ok(None) => 0,
         Err(refusal) => u8::from(refusal),
     };
-    stop_at(page, number, last, run.fields(), run.offset())
+    (at, stop_at(page, number, last, run.fields(), run.offset()))
 }
 
 // Every whole field of the window, from its first byte on, and their lines from the buffer's first
@@ -66,8 +64,7 @@ pub fn run_window<R: Runner>(
     while turns > 0 && stop.is_going() {
         let room = page.out.len().saturating_sub(page.at);
         let row = run.take_row(ram, window, at, room, turns);
-        at = row.at;
-        stop = turn(run, ram, window, last, &mut at, &mut page);
+        (at, stop) = turn(run, ram, window, last, row.at, &mut page);
         turns = row.left - 1;
     }
     Passed {

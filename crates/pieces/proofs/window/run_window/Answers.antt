@@ -7,11 +7,11 @@ use Rattle.pieces.proofs.window.run_window.Goals as goal
 pub loop-turns-preserved : goal.loop-turns-preserved
 loop-turns-preserved g c =
     record {
-      same_buffer = c.turn-stop.ensures.same_buffer ∙ c.loop-turns.invariant.same_buffer;
+      same_buffer = c.turn.ensures.same_buffer ∙ c.loop-turns.invariant.same_buffer;
       is_wanted =
           leads_on _ _ _ _ _ _ _ c.loop-turns.invariant.is_wanted _ _ _ _ _ c.loop-turns-test.true
           (sym c.is_going.ensures ∙ c.if-is_going.true)
-          c.saturating_sub-room.ensures c.take_row-row.ensures c.turn-stop.ensures.is_wanted;
+          c.saturating_sub-room.ensures c.take_row-row.ensures c.turn.ensures.is_wanted;
     }
 
 pub returns : goal.returns
