@@ -27,9 +27,11 @@ use Rattle.recording.specs.Value.{Valued, valued_at}
 use Rattle.recording.specs.Value as shared
 use Rattle.formats.specs.declared.code.Coded.{Coded}
 use Rattle.formats.specs.Code.{coded_by}
-use Rattle.lines.specs.Written.{put, line_written}
+use Rattle.lines.specs.Page.{on, Leaves, line_on}
+use Rattle.lines.specs.declared.Page.{Page}
 use Rattle.pieces.specs.LastLine.{counted}
 use Rattle.pieces.specs.Course.{may_go_on}
+use Rattle.pieces.specs.AsCoded.OnPage.{OnPage}
 use Rattle.pieces.specs.AsCoded.Runner.{FieldLeft, field_left, field_run}
 use Rattle.controller.specs.declared.state.Controller.{Controller}
 use Rattle.controller.specs.Control.{code_in}
@@ -103,20 +105,20 @@ refused_by_14 bytes (Shared field) old =
 
 -- ---- what stands at a place, as the code takes it
 
-module _ (old : HeldRun) (ram window out : List ℕ) (at into : ℕ)
+module _ (old : HeldRun) (ram window : List ℕ) (at : ℕ) (page : Page)
     (answer : Result (Option Taken) Refusal)
     (is_reading : reading answer ≡ read_at window at old.seen) where
   abbrev met : FieldLeft Run
-  met = field_run (desk_course.meets (run_of old ram) window at) (run_of old ram) out into
+  met = field_run (desk_course.meets (run_of old ram) window at) (run_of old ram) (on page)
 
   module _ (told : Taken) (is : answer ≡ Ok (Some told)) (outcome : Result Answer Refusal)
       (left : Controller) (ram' : List ℕ)
       (is_left : done (refused outcome) (answer_in outcome) (desk left ram')
       ≡ deed_of window told.field (desk old.controller ram)) where
     -- a field is taken
-    pub field_taken : (deed : Answer) (out' : List ℕ) (into' : ℕ) (new : HeldRun)
+    pub field_taken : (deed : Answer) (page' : Page) (new : HeldRun)
         → outcome ≡ Ok deed
-        → put into' out' ≡ line_written out into (answer_line ram' deed)
+        → Leaves page page' (line_on page (answer_line ram' deed))
         → new
         ≡ record {
           controller = left;
@@ -124,21 +126,22 @@ module _ (old : HeldRun) (ram window out : List ℕ) (at into : ℕ)
           fields = counted (old.fields + 1);
           offset = counted (old.offset + (told.next - at));
         }
-        → field_left (Ok (Some (record { next = told.next; put = into' }))) (run_of new ram') out'
-        ≡ met
+        → OnPage page page' (field_left (Ok (Some told.next)) (run_of new ram') (on page')) met
     unfolding field_run desk_course met_by took_by taking
-    field_taken deed out' into' new done_so is_put is_new =
-        rw (← is_reading, is, ← is_left, done_so, ← is_put, is_new)
+    field_taken deed page' new done_so printed is_new =
+        record {
+          same_buffer = printed.same_buffer;
+          is_wanted = rw (← is_reading, is, ← is_left, done_so, ← printed.is_wanted, is_new);
+        }
 
     -- what it does is refused
     pub deed_refused : (refusal : Refusal) → outcome ≡ Err refusal
-        → field_left (Err refusal) (run_of (record {
+        → OnPage page page (field_left (Err refusal) (run_of (record {
           controller = left;
           seen = old.seen;
           fields = old.fields;
           offset = old.offset;
-        }) ram') out
-        ≡ met
+        }) ram') (on page)) met
     unfolding field_run desk_course met_by took_by
     deed_refused refusal refused_so =
         let number : number_of refusal
@@ -152,26 +155,31 @@ module _ (old : HeldRun) (ram window out : List ℕ) (at into : ℕ)
         (λ none. other (number ∙ none)) in
         let same : desk left ram' ≡ desk old.controller ram =
         ap (λ (any : Done). any.desk) is_left ∙ kept in
-        rw (
-          ← is_reading,
-          is,
-          ← number,
-          ne_eqb (number_of refusal) 0 other,
-        )
-        (ap (λ (any : Desk). field_left (Err refusal) (record {
-          seen = old.seen;
-          desk = any;
-          fields = old.fields;
-          offset = old.offset;
-        }) out) same)
+        record {
+          same_buffer = refl;
+          is_wanted =
+              rw (
+                ← is_reading,
+                is,
+                ← number,
+                ne_eqb (number_of refusal) 0 other,
+              )
+              (ap (λ (any : Desk). field_left (Err refusal) (record {
+                seen = old.seen;
+                desk = any;
+                fields = old.fields;
+                offset = old.offset;
+              }) (on page)) same);
+        }
 
   -- nothing is left
-  pub end_met : answer ≡ Ok None → field_left (Ok None) (run_of old ram) out ≡ met
+  pub end_met : answer ≡ Ok None
+      → OnPage page page (field_left (Ok None) (run_of old ram) (on page)) met
   unfolding field_run desk_course met_by
-  end_met is = rw (← is_reading, is)
+  end_met is = record { same_buffer = refl; is_wanted = rw (← is_reading, is) refl }
 
   -- what stands there is refused
   pub refusal_met : (refusal : Refusal) → answer ≡ Err refusal
-      → field_left (Err refusal) (run_of old ram) out ≡ met
+      → OnPage page page (field_left (Err refusal) (run_of old ram) (on page)) met
   unfolding field_run desk_course met_by
-  refusal_met refusal is = rw (← is_reading, is)
+  refusal_met refusal is = record { same_buffer = refl; is_wanted = rw (← is_reading, is) refl }

@@ -1,7 +1,8 @@
 // A controller's run is a runner: what its code makes of what stands at a place of the recording.
 use crate::run::Run;
 use crate::{deed, print, reading};
-use pieces::{Runner, Took, Went};
+use lines::Page;
+use pieces::{Runner, Went};
 use refusals::Refusal;
 use rows::Row;
 
@@ -58,18 +59,15 @@ impl Runner for Run {
         ram: &mut [u16],
         window: &[u8],
         at: usize,
-        out: &mut [u8],
-        put: usize,
-    ) -> Result<Option<Took>, Refusal> {
+        page: &mut Page,
+    ) -> Result<Option<usize>, Refusal> {
         let Some(taken) = reading::read_field(window, at, self.seen)? else {
             return Ok(None);
         };
         let answer = deed::do_field(&mut self.controller, ram, window, taken.field)?;
         self.seen = taken.field.seen_after(self.seen);
         self.pass(1, (taken.next - at) as u64);
-        Ok(Some(Took {
-            next: taken.next,
-            put: print::put_answer(out, put, ram, answer),
-        }))
+        print::put_answer(page, ram, answer);
+        Ok(Some(taken.next))
     }
 }

@@ -1,6 +1,7 @@
 -- Each public contract of the crate allows one outcome alone: one reason to stop, one count, and
 -- one content of every byte that was lent. Assumes nothing.
 use Rattle.rules.proofs.Determined.{Determined, DeterminedAs, same}
+use Rattle.lines.specs.Page.{on}
 use Rattle.lines.specs.Written.{Put, put}
 use Rattle.pieces.specs.AsCoded.Window.{Passed, Stopped, stopped}
 use Rattle.pieces.specs.AsCoded.Runner.{passed_of}
@@ -17,9 +18,9 @@ pub is_going : Determined 0 is_going_kinds.ps is_going_kinds.r is_going_reads.Po
 is_going κs arguments result result' exit exit' = same
 
 pub stop_at :
-    DeterminedAs 1 stop_at_kinds.ps stop_at_kinds.r stop_at_reads.Post Stopped
-    (λ κs result exit. stopped (put result.put exit.0.now) result.stop)
-stop_at κs arguments result result' exit exit' = same
+    DeterminedAs 2 stop_at_kinds.ps stop_at_kinds.r stop_at_reads.Post Stopped
+    (λ κs result exit. stopped (on exit.0.now) result)
+stop_at κs arguments result result' exit exit' is is' = same is.is_wanted is'.is_wanted
 
 pub keep_rest :
     DeterminedAs 1 keep_rest_kinds.ps keep_rest_kinds.r keep_rest_reads.Post Put

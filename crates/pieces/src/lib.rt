@@ -10,6 +10,6 @@ mod stop;
 mod window;
 
 pub use rest::keep_rest;
-pub use runner::{Runner, Took, Went};
-pub use stop::{Stop, Stopped, stop_at};
+pub use runner::{Runner, Went};
+pub use stop::{Stop, stop_at};
 pub use window::{Passed, run_window};

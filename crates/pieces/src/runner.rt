@@ -1,17 +1,13 @@
 // What a program brings that runs a recording: the course of its run, and code that follows it over
 // a memory that is lent.
 ghost use Rattle.std.specs.Prelude.{◌≡◌, List, ℕ};
+ghost use Rattle.lines.specs.Page.{on};
 ghost use Rattle.pieces.specs.Course.{Course};
+ghost use Rattle.pieces.specs.AsCoded.OnPage.{OnPage};
 ghost use Rattle.pieces.specs.AsCoded.Runner.{field_left, field_run, TurnsTaken};
 
+use lines::Page;
 use refusals::Refusal;
-
-// A field that was taken: where the next one begins, and the place behind its line.
-#[derive(Clone, Copy)]
-pub struct Took {
-    pub next: usize,
-    pub put: usize,
-}
 
 // Where fields that were taken at once have led: the place behind them, and how many turns are
 // left.
@@ -51,18 +47,17 @@ pub trait Runner {
         ensures { TurnsTaken course window.now room most (run_of self.old ram.old) at
             result.left (run_of self.new ram.new) result.at };
 
-    // Takes the field at a place, and prints its line. The place in the buffer alone is given and
-    // answered, since a call over a window keeps it beside the run. `None` is the end of the bytes.
-    // That and a refusal change nothing.
+    // Takes the field at a place, and prints its line. Answers where the next one begins; `None` is
+    // the end of the bytes. That and a refusal change nothing.
     fn take_field(
         &mut self,
         ram: &mut [u16],
         window: &[u8],
         at: usize,
-        out: &mut [u8],
-        put: usize,
-    ) -> Result<Option<Took>, Refusal>
-        ensures { field_left result (run_of self.new ram.new) out.new
-            ≡ field_run (course.meets (run_of self.old ram.old) window.now at)
-            (run_of self.old ram.old) out.old put };
+        page: &mut Page,
+    ) -> Result<Option<usize>, Refusal>
+        ensures { OnPage page.old page.new
+            (field_left result (run_of self.new ram.new) (on page.new))
+            (field_run (course.meets (run_of self.old ram.old) window.now at)
+            (run_of self.old ram.old) (on page.old)) };
 }

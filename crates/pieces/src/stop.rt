@@ -1,8 +1,8 @@
 // Why a call over a window of a recording stops, and the last line that it prints then.
 ghost use Rattle.std.specs.Prelude.{◌≡◌};
-ghost use Rattle.lines.specs.Page.{Leaves, line_on};
-ghost use Rattle.lines.specs.Written.{put};
+ghost use Rattle.lines.specs.Page.{on, Leaves, line_on};
 ghost use Rattle.pieces.specs.LastLine.{last_line};
+ghost use Rattle.pieces.specs.AsCoded.OnPage.{OnPage};
 ghost use Rattle.pieces.specs.AsCoded.Window.{is_going, stopped, stopped_at};
 
 use lines::Page;
@@ -14,13 +14,6 @@ pub enum Stop {
     Hungry,
     Full,
     Over,
-}
-
-// What a last line leaves: how many bytes of lines there are, and why the call stops.
-#[derive(Clone, Copy)]
-pub struct Stopped {
-    pub put: usize,
-    pub stop: Stop,
 }
 
 impl Stop {
@@ -43,32 +36,17 @@ fn put_last(page: &mut Page, number: u8, fields: u64, offset: u64)
 }
 
 // No field is taken, by the number of a refusal or 0 for the end of the bytes: more bytes are
-// needed or, where these are the last, the last line is printed. The place alone is given and
-// answered, since a call over a window keeps it beside the run. The number is any byte, no
+// needed or, where these are the last, the last line is printed. The number is any byte, no
 // `Refusal`: callers may name what they will.
-pub fn stop_at(
-    out: &mut [u8],
-    at: usize,
-    number: u8,
-    last: bool,
-    fields: u64,
-    offset: u64,
-) -> Stopped
-    ensures { stopped (put result.put out.new) result.stop
-        ≡ stopped_at number last fields offset out.old at }
+pub fn stop_at(page: &mut Page, number: u8, last: bool, fields: u64, offset: u64) -> Stop
+    ensures { OnPage page.old page.new (stopped (on page.new) result)
+        (stopped_at number last fields offset page.old.out.now page.old.at) }
 {
     // one value, so that the test is one way of the code
     let hungry = !last & ((number == 0) | (number == 5));
     if hungry {
-        return Stopped {
-            put: at,
-            stop: Stop::Hungry,
-        };
+        return Stop::Hungry;
     }
-    let mut page = Page { out, at };
-    put_last(&mut page, number, fields, offset);
-    Stopped {
-        put: page.at,
-        stop: Stop::Over,
-    }
+    put_last(page, number, fields, offset);
+    Stop::Over
 }

@@ -11,6 +11,7 @@ use Rattle.std.proofs.Common.{
   Result,
   Ok,
   Err,
+  refl,
   sym,
   ap,
   ◌∙◌,
@@ -32,8 +33,10 @@ use Rattle.recording.specs.Value.{valued_at}
 use Rattle.recording.proofs.TakenLaws.{taken_within}
 use Rattle.recording.proofs.InOrder.{taken_in_order}
 use Rattle.recording.proofs.TakenWords.{taken_words_there}
-use Rattle.lines.specs.Written.{put, line_written}
+use Rattle.lines.specs.Page.{on, Leaves, line_on}
+use Rattle.lines.specs.declared.Page.{Page}
 use Rattle.pieces.specs.LastLine.{counted}
+use Rattle.pieces.specs.AsCoded.OnPage.{OnPage}
 use Rattle.pieces.specs.AsCoded.Runner.{FieldLeft, field_left, field_run}
 use Rattle.tray.specs.declared.run.Tray.{Tray as HeldTray}
 use Rattle.tray.specs.Happening.{happening_of, happened}
@@ -70,17 +73,17 @@ reads_on window at seen answer found told is_reading is some =
 
 -- ---- what the code makes of a reading
 
-module _ (old : HeldTray) (ram window : List ℕ) (at : ℕ) (out : List ℕ) (into : ℕ)
-    (answer : Answered) (is_reading : reading answer ≡ read_at window at old.seen) where
+module _ (old : HeldTray) (ram window : List ℕ) (at : ℕ) (page : Page) (answer : Answered)
+    (is_reading : reading answer ≡ read_at window at old.seen) where
   abbrev met : FieldLeft Tray
-  met = field_run (tray_course.meets (tray_of old ram) window at) (tray_of old ram) out into
+  met = field_run (tray_course.meets (tray_of old ram) window at) (tray_of old ram) (on page)
 
   pub field_taken : (found : Option FieldTaken) (told : FieldTaken) → answer ≡ Ok found
       → found ≡ Some told
-      → (core : Core) (queue : Queue) (brought : Answer) (ram' out' : List ℕ) (into' : ℕ)
+      → (core : Core) (queue : Queue) (brought : Answer) (ram' : List ℕ) (page' : Page)
       → shown (card core queue ram') brought
       ≡ happened (happening_of (valued_at window told.field)) (card old.core old.queue ram)
-      → put into' out' ≡ line_written out into (answer_line ram' brought)
+      → Leaves page page' (line_on page (answer_line ram' brought))
       → (new : HeldTray)
       → new
       ≡ record {
@@ -90,20 +93,24 @@ module _ (old : HeldTray) (ram window : List ℕ) (at : ℕ) (out : List ℕ) (i
         fields = counted (old.fields + 1);
         offset = counted (old.offset + (told.next - at));
       }
-      → field_left (Ok (Some (record { next = told.next; put = into' }))) (tray_of new ram') out'
-      ≡ met
+      → OnPage page page' (field_left (Ok (Some told.next)) (tray_of new ram') (on page')) met
   unfolding field_run tray_course met_by taking taking_line
-  field_taken found told is some core queue brought ram' out' into' is_left is_put new is_new =
-      rw (← is_reading, is, some, ← is_left, ← is_put, is_new)
+  field_taken found told is some core queue brought ram' page' is_left printed new is_new =
+      record {
+        same_buffer = printed.same_buffer;
+        is_wanted = rw (← is_reading, is, some, ← is_left, ← printed.is_wanted, is_new);
+      }
 
   pub end_met : (found : Option FieldTaken) → answer ≡ Ok found → found ≡ None
-      → field_left (Ok None) (tray_of old ram) out ≡ met
+      → OnPage page page (field_left (Ok None) (tray_of old ram) (on page)) met
   unfolding field_run tray_course met_by
-  end_met found is none = rw (← is_reading, is, none)
+  end_met found is none =
+      record { same_buffer = refl; is_wanted = rw (← is_reading, is, none) refl }
 
   pub refusal_met : (refused : FieldRefused) → answer ≡ Err refused
-      → field_left (Err refused.refusal) (tray_of old ram) out ≡ met
+      → OnPage page page (field_left (Err refused.refusal) (tray_of old ram) (on page)) met
   unfolding field_run tray_course met_by
-  refusal_met refused is = rw (← is_reading, is)
+  refusal_met refused is =
+      record { same_buffer = refl; is_wanted = rw (← is_reading, is) refl }
 
 pub ruleset meeting = (end_met, refusal_met)

@@ -1,7 +1,6 @@
-// The lines that a run prints, into the buffer that it is lent.
+// The lines that a run prints, on the page that it is lent.
 ghost use Rattle.std.specs.Prelude.{◌≡◌};
 ghost use Rattle.lines.specs.Page.{Leaves, line_on};
-ghost use Rattle.lines.specs.Written.{put, line_written};
 ghost use Rattle.tray.specs.Run.{reply_line, answer_line};
 
 use card::place::CARD_BLOCKS;
@@ -26,21 +25,11 @@ fn put_reply(page: &mut Page, ram: &[u16], reply: Reply)
     }
 }
 
-fn put_line(page: &mut Page, ram: &[u16], answer: Answer)
+pub(crate) fn put_answer(page: &mut Page, ram: &[u16], answer: Answer)
     ensures { Leaves page.old page.new (line_on page.old (answer_line ram.now answer)) }
 {
     match answer {
         Answer::Replied(reply) => put_reply(page, ram, reply),
         Answer::QueueWord(word) => page.queue_line(word),
     }
-}
-
-// The place alone is given and answered, since a call over a window keeps it beside the run.
-pub(crate) fn put_answer(out: &mut [u8], at: usize, ram: &[u16], answer: Answer) -> usize
-    ensures { put result out.new
-        ≡ line_written out.old at (answer_line ram.now answer) }
-{
-    let mut page = Page { out, at };
-    put_line(&mut page, ram, answer);
-    page.at
 }

@@ -1,7 +1,8 @@
 // A tray run is a runner: what its code makes of what stands at a place of the recording.
 use crate::run::Tray;
 use crate::{field, print};
-use pieces::{Runner, Took, Went};
+use lines::Page;
+use pieces::{Runner, Went};
 use recording;
 use refusals::Refusal;
 use rows::Row;
@@ -59,19 +60,16 @@ impl Runner for Tray {
         ram: &mut [u16],
         window: &[u8],
         at: usize,
-        out: &mut [u8],
-        put: usize,
-    ) -> Result<Option<Took>, Refusal> {
+        page: &mut Page,
+    ) -> Result<Option<usize>, Refusal> {
         match recording::read_field(window, at, self.seen) {
             Ok(Some(taken)) => {
                 let field = taken.field;
                 let answer = field::happen(&mut self.core, &mut self.queue, ram, window, field);
                 self.seen = self.seen.after(field);
                 self.pass(1, (taken.next - at) as u64);
-                Ok(Some(Took {
-                    next: taken.next,
-                    put: print::put_answer(out, put, ram, answer),
-                }))
+                print::put_answer(page, ram, answer);
+                Ok(Some(taken.next))
             }
             Ok(None) => Ok(None),
             Err(refused) => Err(refused.refusal),

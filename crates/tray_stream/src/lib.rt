@@ -18,6 +18,8 @@ pub struct Done {
 }
 
 // Runs the recording on the input over the lent memory, which starts zero, whatever it held.
+// A controller's run has a function like it: one for both would want a start of every runner, in
+// code and in contract, and a type for what it leaves, which is more than these four lines twice.
 pub fn run_input<I: Read, O: Write>(input: &mut I, output: &mut O, ram: &mut [u16; 16384]) -> Done
     ensures came { Came tray_course tray_at_start
         (tray_of result.tray ram.new) result.whole }

@@ -19,7 +19,6 @@ use Rattle.std.specs.Prelude.{
 use Rattle.refusals.specs.declared.Refusal.{Refusal}
 use Rattle.refusals.specs.Number.{number_of}
 use Rattle.lines.specs.Written.{Put, line_written}
-use Rattle.pieces.specs.declared.runner.Took.{Took}
 use Rattle.pieces.specs.declared.window.Passed.{Passed as HeldPassed}
 use Rattle.pieces.specs.declared.stop.Stop.TheVariants.{Going}
 use Rattle.pieces.specs.Course.{Met, taken, at_end, refused, Course}
@@ -27,38 +26,33 @@ use Rattle.pieces.specs.AsCoded.Window.{Passed, turns}
 
 -- ---- one field
 
--- what is answered, and what is left of the run and of the buffer
+-- what is answered, and what is left of the run and of the page
 pub record FieldLeft (Run : Type 0) : Type 0 where
-  pub answer : Result (Option Took) ℕ
+  pub answer : Result (Option ℕ) ℕ
   pub run : Run
-  pub out : List ℕ
+  pub page : Put
 
 -- a refusal is told by its number
 abbrev pub numbered : {A : Type 0} → Result A Refusal → Result A ℕ
 numbered (Ok outcome) = Ok outcome
 numbered (Err refusal) = Err (number_of refusal)
 
-abbrev pub field_left : {Run : Type 0} → Result (Option Took) Refusal → Run → List ℕ
-    → FieldLeft Run
-field_left answer run out = record { answer = numbered answer; run = run; out = out }
+abbrev pub field_left : {Run : Type 0} → Result (Option ℕ) Refusal → Run → Put → FieldLeft Run
+field_left answer run page = record { answer = numbered answer; run = run; page = page }
 
 abbrev pub field_taken : {Run : Type 0} → ℕ → Run → Put → FieldLeft Run
-field_taken next new left =
-    record {
-      answer = Ok (Some (record { next = next; put = left.next }));
-      run = new;
-      out = left.bytes;
-    }
+field_taken next new page = record { answer = Ok (Some next); run = new; page = page }
 
 -- none is
-abbrev pub not_taken : {Run : Type 0} → Result (Option Took) ℕ → Run → List ℕ → FieldLeft Run
-not_taken answer old out = record { answer = answer; run = old; out = out }
+abbrev pub not_taken : {Run : Type 0} → Result (Option ℕ) ℕ → Run → Put → FieldLeft Run
+not_taken answer old page = record { answer = answer; run = old; page = page }
 
 -- a field that is taken, with its line; else nothing changes
-unfoldable pub field_run : {Run : Type 0} → Met Run → Run → List ℕ → ℕ → FieldLeft Run
-field_run (taken next line new) old out put = field_taken next new (line_written out put line)
-field_run at_end old out put = not_taken (Ok None) old out
-field_run (refused number) old out put = not_taken (Err number) old out
+unfoldable pub field_run : {Run : Type 0} → Met Run → Run → Put → FieldLeft Run
+field_run (taken next line new) old page =
+    field_taken next new (line_written page.bytes page.next line)
+field_run at_end old page = not_taken (Ok None) old page
+field_run (refused number) old page = not_taken (Err number) old page
 
 -- ---- a call
 

@@ -11,7 +11,7 @@ returns-in_err-taken c = search (rules, refusal_met) depth 9
 
 pub returns-in_default : goal.returns-in_default
 returns-in_default c =
-    end_met _ _ _ _ _ _ _ c.read_field.ensures
+    end_met _ _ _ _ _ _ c.read_field.ensures
     (c.in_ok-taken.was ∙ ap (λ any. Ok any) c.in_default.is)
 
 pub do_field-requires : goal.do_field-requires
@@ -24,7 +24,7 @@ returns-in_err-answer c =
     err_from_is_err_and c.from_residual-in_err-answer.result
     c.from_residual-in_err-answer.ensures.1 in
     rw told.1
-    (deed_refused c.args.self.now _ _ _ _ _ _ c.read_field.ensures c.in-Some.taken
+    (deed_refused c.args.self.now _ _ _ _ _ c.read_field.ensures c.in-Some.taken
     (c.in_ok-taken.was ∙ ap (λ any. Ok any) c.in-Some.is) _ _ _ c.do_field.ensures told.0
     (c.in_err-answer.was ∙ ap (λ any. Err any) (sym told.2)))
 
@@ -34,6 +34,6 @@ overflow_sub-taken c =
 
 pub returns : goal.returns
 returns c =
-    field_taken c.args.self.now _ _ _ _ _ _ c.read_field.ensures c.in-Some.taken
+    field_taken c.args.self.now _ _ _ _ _ c.read_field.ensures c.in-Some.taken
     (c.in_ok-taken.was ∙ ap (λ any. Ok any) c.in-Some.is) _ _ _ c.do_field.ensures
-    c.in_ok-answer.answer _ _ c.pass.new.self c.in_ok-answer.was c.put_answer.ensures (search rules)
+    c.in_ok-answer.answer _ c.pass.new.self c.in_ok-answer.was c.put_answer.ensures (search rules)

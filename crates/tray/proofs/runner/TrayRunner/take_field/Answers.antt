@@ -14,8 +14,8 @@ overflow_sub-taken c =
 
 pub returns-in-Ok-Some : goal.returns-in-Ok-Some
 returns-in-Ok-Some c =
-    field_taken _ _ _ _ _ _ _ c.read_field.ensures _ _ c.in-Ok-Some.is c.in-Ok-Some.field-0-is
-    _ _ _ _ _ _ c.happen-answer.ensures c.put_answer.ensures c.pass.new.self (search rules)
+    field_taken _ _ _ _ _ _ c.read_field.ensures _ _ c.in-Ok-Some.is c.in-Ok-Some.field-0-is
+    _ _ _ _ _ c.happen-answer.ensures c.put_answer.ensures c.pass.new.self (search rules)
 
 pub returns-in-Ok-None : goal.returns-in-Ok-None
 returns-in-Ok-None c = search (rules, meeting) depth 9

@@ -1,7 +1,7 @@
--- `tray::print::put_line` meets its contract: a law for each answer. Assumes nothing.
+-- `tray::print::put_answer` meets its contract: a law for each answer. Assumes nothing.
 use Rattle.std.proofs.Common.{rules}
 use Rattle.tray.proofs.LineLaws.{answer_lines}
-use Rattle.tray.proofs.print.put_line.Goals as goal
+use Rattle.tray.proofs.print.put_answer.Goals as goal
 
 pub returns-in-Replied : goal.returns-in-Replied
 returns-in-Replied c = search (rules, answer_lines) depth 9
