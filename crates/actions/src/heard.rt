@@ -31,7 +31,6 @@ impl Terminal {
             ≡ silence_action line time (over self.old ram.old) }
     {
         self.memory_refusal(ram.len(), line <= LAST_LINE)?;
-        let reply = self.core.silence(&mut self.queue, ram, line == 1, time);
-        Ok(reply)
+        Ok(self.core.silence(&mut self.queue, ram, line == 1, time))
     }
 }

@@ -39,8 +39,7 @@ impl Terminal {
         if !self.is_fit() {
             return Err(Refusal::State);
         }
-        let word = self.queue.read();
-        Ok(word)
+        Ok(self.queue.read())
     }
 
     // The host sets the table block.

@@ -21,6 +21,7 @@ pub struct Status {
 impl Status {
     // The status that an opening makes: of the flags as they stand, of the command and whether it
     // is illegal, of busy as the opening found it, and of whether the terminal flag is inhibited.
+    // The definitions take them in this order.
     #[tactic(auto, unfolding(crate::specs::Status::caught_status))]
     pub fn caught(
         station: u16,

@@ -4,7 +4,7 @@ ghost use Rattle.bus.specs.Word.{word_of};
 
 #[derive(Clone, Copy)]
 pub struct Word {
-    // line B
+    // line B: document 01's bit of the line, A is 0 and B is 1, a truth value as in the definitions
     pub line: bool,
     // command sync
     pub sync: bool,

@@ -1,5 +1,5 @@
 // The control word: bits 13 to 6 block, 5 line, 4 go on, 3 to 0 format code; 15 and 14 are not
-// looked at.
+// looked at. They read a number, since the word is a public field of the controller's state.
 ghost use Rattle.std.specs.Prelude.{◌≡◌};
 ghost use Rattle.controller.specs.Control.{block_in, line_in, goes_on, code_in};
 

@@ -95,7 +95,7 @@ impl<'a> Page<'a> {
     pub fn refusal_line(&mut self, number: u8, offset: u64)
         ensures { Leaves self.old self.new (line_on self.old (refusal_line number offset)) }
     {
-        self.numbers_line(b'!', number as u64, offset);
+        self.numbers_line(b'!', u64::from(number), offset);
     }
 }
 
@@ -119,7 +119,7 @@ impl<'a> Page<'a> {
     pub fn result_line(&mut self, code: u16, mark: bool)
         ensures { Leaves self.old self.new (line_on self.old (result_line code mark)) }
     {
-        self.numbers_line(b'R', code as u64, mark as u64);
+        self.numbers_line(b'R', u64::from(code), u64::from(mark));
     }
 }
 

@@ -44,7 +44,7 @@ impl<'a> Page<'a> {
         requires { self.old.at + 2 ≤ length self.old.out.now }
         ensures { Wrote 2 self.old (hex_byte byte) self.new }
     {
-        let number = byte as u16;
+        let number = u16::from(byte);
         self.put(&[hex_digit(number / 16), hex_digit(number)]);
     }
 

@@ -35,10 +35,11 @@ use Rattle.message.specs.Words.{
 use Rattle.message.specs.Silence.{silence_in_stage}
 
 -- rule 6's test, where a call told whether there is a second command
-pub first_told : (sync receive none answered second outcome : Bool) → answered ≡ second
-    → (sync && receive && none && not answered) ≡ outcome
-    → (sync && receive && none && not second) ≡ outcome
-first_told sync receive none answered second outcome is seen = rw (← is) seen
+pub first_told : (sync receive first answered second outcome : Bool) → second ≡ not answered
+    → (sync && receive && first && answered) ≡ outcome
+    → (sync && receive && first && not second) ≡ outcome
+first_told sync receive first true second outcome is seen = rw is seen
+first_told sync receive first false second outcome is seen = rw is seen
 
 -- ---- the answering status: its address is the second command's, or it is not
 

@@ -1,5 +1,6 @@
 // What a word or a silence does to an open message: the decision alone, which looks at no memory.
-// Counts and fault codes stay numbers: a narrower type would ask more of callers.
+// Counts and fault codes stay numbers: a narrower type would ask more of callers. Station,
+// flags and word come apart, and in this order, since the definitions take them so.
 ghost use Rattle.std.specs.Prelude.{◌≡◌};
 ghost use Rattle.message.specs.Words.{
   own_command,
@@ -56,9 +57,9 @@ pub enum SilenceAct {
 pub fn is_own(station: u16, flags: u16, word: Word) -> bool
     ensures { result ≡ own_command station flags word }
 {
-    let address = command::address(word.value);
-    let broadcast = command::is_broadcast(word.value);
-    word.sound & word.sync & ((address == station) | (broadcast & (flags % 2 == 1)))
+    let to_station = command::address(word.value) == station;
+    let to_group = command::is_broadcast(word.value) & (flags % 2 == 1);
+    word.sound & word.sync & (to_station | to_group)
 }
 
 // Direction 1, subaddress 1 to 30.
@@ -72,22 +73,17 @@ fn asks_for_data(value: u16) -> bool
 fn drops_broadcast(station: u16, command: u16, value: u16) -> bool
     ensures { result ≡ drops_broadcast station command value }
 {
-    let broadcast = command::is_broadcast(command);
-    let address = command::address(value);
-    let asks = asks_for_data(value);
-    broadcast & (address == station) & asks
+    command::is_broadcast(command) & (command::address(value) == station) & asks_for_data(value)
 }
 
 // Rule 6: direction 1, address neither own nor 31, subaddress 1 to 30, same count.
 pub fn is_second(station: u16, command: u16, value: u16) -> bool
     ensures { result ≡ is_second station command value }
 {
-    let asks = asks_for_data(value);
-    let address = command::address(value);
-    let broadcast = command::is_broadcast(value);
-    let count = command::mode_code(value);
-    let wanted = command::mode_code(command);
-    asks & !(address == station) & !broadcast & (count == wanted)
+    asks_for_data(value)
+        & (command::address(value) != station)
+        & !command::is_broadcast(value)
+        & (command::mode_code(value) == command::mode_code(command))
 }
 
 // Rule 6: command sync as first word of a data receive.
@@ -107,7 +103,6 @@ fn first_command(station: u16, command: u16, value: u16) -> WordAct
 fn in_data(station: u16, asked: Asked, message: OpenMessage, word: Word) -> WordAct
     ensures { result ≡ in_data station asked message word }
 {
-    let first = word.sync & asked.receive & (message.taken == 0) & !message.second.is_some();
     if !word.sound {
         return WordAct::Fault(1);
     }
@@ -117,7 +112,7 @@ fn in_data(station: u16, asked: Asked, message: OpenMessage, word: Word) -> Word
     if asked.takes <= message.taken {
         return WordAct::Fault(4);
     }
-    if first {
+    if word.sync & asked.receive & (message.taken == 0) & message.second.is_none() {
         return first_command(station, message.command, word.value);
     }
     if word.sync {
@@ -143,15 +138,13 @@ fn in_second_command(word: Word) -> WordAct
 fn in_awaiting_status(second: u16, word: Word) -> WordAct
     ensures { result ≡ in_awaiting_status second word }
 {
-    let address = command::address(word.value);
-    let wanted = command::address(second);
     if !word.sound {
         return WordAct::Fault(1);
     }
     if !word.sync {
         return WordAct::Fault(6);
     }
-    if address == wanted {
+    if command::address(word.value) == command::address(second) {
         return WordAct::TakeStatus;
     }
     WordAct::Fault(5)
@@ -178,10 +171,8 @@ fn word_in_stage(
 pub fn on_word(station: u16, flags: u16, asked: Asked, message: OpenMessage, word: Word) -> WordAct
     ensures { result ≡ on_word station flags asked message word }
 {
-    let own = is_own(station, flags, word);
     let elsewhere = word.line != message.line;
-    let supersedes = own & (elsewhere | !word.joined);
-    if supersedes {
+    if is_own(station, flags, word) & (elsewhere | !word.joined) {
         return WordAct::Supersede;
     }
     if elsewhere {

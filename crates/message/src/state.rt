@@ -58,11 +58,8 @@ impl OpenMessage {
 pub fn moved_message(message: Option<OpenMessage>) -> Option<OpenMessage>
     ensures { result ≡ moved_message message }
 {
-    match message {
-        None => None,
-        Some(held) => Some(OpenMessage {
-            moved: true,
-            ..held
-        }),
-    }
+    message.map(|held| OpenMessage {
+        moved: true,
+        ..held
+    })
 }

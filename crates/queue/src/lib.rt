@@ -60,7 +60,7 @@ impl Queue {
             self.ring.overflow = true;
             return;
         }
-        let place = (self.ring.start as usize + self.ring.count as usize) % 256;
+        let place = (usize::from(self.ring.start) + usize::from(self.ring.count)) % 256;
         self.places[place] = block;
         self.ring.count += 1;
     }
@@ -75,7 +75,7 @@ impl Queue {
             return mark;
         }
         let place = self.ring.start % QUEUE_PLACES;
-        let block = self.places[place as usize];
+        let block = self.places[usize::from(place)];
         self.ring.start = (place + 1) % QUEUE_PLACES;
         self.ring.count -= 1;
         32768 + block % 1024 + mark

@@ -71,9 +71,9 @@ impl Field {
                 table,
                 flags,
             } => {
-                unless(station as u16 <= LAST_STATION, Refusal::Station)?;
-                unless((table as u16) < blocks, Refusal::TableBlock)?;
-                unless(flags as u16 <= ALL_FLAGS, Refusal::Value)
+                unless(u16::from(station) <= LAST_STATION, Refusal::Station)?;
+                unless(u16::from(table) < blocks, Refusal::TableBlock)?;
+                unless(u16::from(flags) <= ALL_FLAGS, Refusal::Value)
             }
             Field::Word { marks, .. } => unless(marks <= ALL_MARKS, Refusal::Value),
             Field::Silence { line, .. } => unless(line <= LAST_LINE, Refusal::Value),
@@ -81,8 +81,8 @@ impl Field {
             Field::HostWrite { address, count, .. } => {
                 unless(host::is_write(blocks, address, count), Refusal::Value)
             }
-            Field::MoveTable { table } => unless((table as u16) < blocks, Refusal::TableBlock),
-            Field::SetFlags { flags } => unless(flags as u16 <= ALL_FLAGS, Refusal::Value),
+            Field::MoveTable { table } => unless(u16::from(table) < blocks, Refusal::TableBlock),
+            Field::SetFlags { flags } => unless(u16::from(flags) <= ALL_FLAGS, Refusal::Value),
         }
     }
 }

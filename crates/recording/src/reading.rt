@@ -30,10 +30,9 @@ pub fn read_field(bytes: &[u8], place: usize, seen: Seen) -> Result<Option<Taken
     if bytes.len() <= place {
         return Ok(None);
     }
-    match field_there(bytes, place, seen) {
-        Ok(taken) => Ok(Some(taken)),
-        Err(refusal) => Err(Refused { refusal, place }),
-    }
+    field_there(bytes, place, seen)
+        .map(Some)
+        .map_err(|refusal| Refused { refusal, place })
 }
 
 // The same where a byte is left.
@@ -48,7 +47,7 @@ fn field_there(bytes: &[u8], place: usize, seen: Seen) -> Result<Taken, Refusal>
     if left < 3 {
         return Err(Refusal::Cut);
     }
-    let size = bytes::word_at(bytes, place + 1) as usize;
+    let size = usize::from(bytes::word_at(bytes, place + 1));
     if !tag.length_fits(size) {
         return Err(Refusal::Length);
     }

@@ -40,6 +40,7 @@ pub fn write_words(bytes: &[u8], first: usize, count: usize, ram: &mut [u16], ad
         return;
     }
     let start = address as usize;
+    // what `iter_mut` lends is known to a proof by its length alone
     for word in 0..count {
         if start + word < ram.len() {
             ram[start + word] = bytes::word_at(bytes, first + 2 * word);

@@ -54,6 +54,7 @@ impl Row {
         let marks = marks_on(line);
         let mut cell = self.cell;
         let mut at = place;
+        // the row ends at the first word that is not there, and says how far it came
         while cell < self.end
             && let Some(found) = recording::find_word(bytes, at, marks)
         {
@@ -69,7 +70,7 @@ impl Row {
     fn may_take(self, setup: bool, room: usize, most: u64) -> bool
         ensures { result ≡ may_take self setup room most }
     {
-        setup && lines::LINE_ROOM <= room && (self.end as u64) < most && self.cell < self.end
+        setup && lines::LINE_ROOM <= room && u64::from(self.end) < most && self.cell < self.end
     }
 
     // Takes the data words on a line that stand next, as many as are wanted: after a setup, with

@@ -10,7 +10,7 @@ use std::io::{Read, Write};
 use tray::Tray;
 
 // What a run leaves, and whether it is whole: it came to its own end, and the operating system took
-// every line of it.
+// every line of it. `Came` speaks of what is left by a run that broke off too, so both stand here.
 #[derive(Clone, Copy)]
 pub struct Done {
     pub tray: Tray,

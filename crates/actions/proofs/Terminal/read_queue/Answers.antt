@@ -13,6 +13,6 @@ returns c =
     rw (
       ← c.is_fit.ensures,
       c.if-not-is_fit.false,
-      c.read-word.ensures.word,
-      c.read-word.ensures.left,
+      c.read.ensures.word,
+      c.read.ensures.left,
     )

@@ -14,4 +14,4 @@ pub returns : goal.returns
 unfolding silence_action
 returns c =
     memory_took _ _ _ _ _ c.in_ok-memory_refusal.ensures
-    (silence_took _ _ _ _ _ _ c.silence-reply.ensures)
+    (silence_took _ _ _ _ _ _ c.silence.ensures)

@@ -14,8 +14,8 @@ pub returns-then-not-word-2 : goal.returns-then-not-word-2
 unfolding in_awaiting_status
 returns-then-not-word-2 c = search cases depth 9
 
-pub returns-then-address-wanted : goal.returns-then-address-wanted
-returns-then-address-wanted c = search (rules, answering)
+pub returns-then-address : goal.returns-then-address
+returns-then-address c = search (rules, answering)
 
 pub returns : goal.returns
 returns c = search (rules, answering)

@@ -17,9 +17,9 @@ pub returns-then-asked-message : goal.returns-then-asked-message
 unfolding in_data
 returns-then-asked-message c = search cases depth 14 fits 4000
 
-pub returns-then-first : goal.returns-then-first
+pub returns-then-word-asked : goal.returns-then-word-asked
 unfolding in_data
-returns-then-first c = search (cases, first_told) depth 14 fits 4000
+returns-then-word-asked c = search (cases, first_told) depth 14 fits 4000
 
 pub returns-then-word : goal.returns-then-word
 unfolding in_data

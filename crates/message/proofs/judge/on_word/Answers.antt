@@ -3,8 +3,8 @@ use borrow.Author.Rules.{rules}
 use Rattle.message.proofs.JudgeLaws.{on_words}
 use Rattle.message.proofs.judge.on_word.Goals as goal
 
-pub returns-then-supersedes : goal.returns-then-supersedes
-returns-then-supersedes c = search (rules, on_words)
+pub returns-then-is_own-elsewhere : goal.returns-then-is_own-elsewhere
+returns-then-is_own-elsewhere c = search (rules, on_words)
 
 pub returns-then-elsewhere : goal.returns-then-elsewhere
 returns-then-elsewhere c = search (rules, on_words)

@@ -1,12 +1,10 @@
 -- `message::state::moved_message` meets its contract, by the cases of the message. Assumes
 -- nothing.
+use borrow.Author.Rules.{rules}
 use Rattle.message.specs.Message.{moved_message}
+use Rattle.message.proofs.MessageLaws.{moved_by}
 use Rattle.message.proofs.state.moved_message.Goals as goal
 
-pub returns-in-None : goal.returns-in-None
+pub returns : goal.returns
 unfolding moved_message
-returns-in-None c = rw c.in-None.is
-
-pub returns-in-Some : goal.returns-in-Some
-unfolding moved_message
-returns-in-Some c = rw c.in-Some.is
+returns c = moved_by _ _ c.map.ensures.cases (λ held moves. search rules)
