@@ -33,7 +33,8 @@ def lines_of(pattern):
 def items_of(kind):
     """Each enum or struct: where it stands, its name and the lines of its body."""
     for path, text in texts.items():
-        for match in re.finditer(rf"^(?:pub(?:\(crate\))? )?{kind} (\w+)[^;{{]*\{{\n(.*?)^\}}", text, re.S | re.M):
+        head = rf"^(?:pub(?:\(crate\))? )?{kind} (\w+)[^;{{]*\{{\n(.*?)^\}}"
+        for match in re.finditer(head, text, re.S | re.M):
             body = [re.sub(r"//.*", "", line).rstrip() for line in match[2].split("\n")]
             body = [line for line in body if line.strip()]
             number = text[: match.start()].count("\n") + 1
@@ -47,13 +48,12 @@ def variants(body):
 
 
 def option_shaped():
-    """Enums of two variants, one of which holds nothing, and those that hold no value for one case."""
+    """Enums of two variants, one of which holds nothing, and those with a case for no value."""
     found = []
     for place, name, body in items_of("enum"):
         shape = variants(body)
-        if len(shape) == 2 and [held for _, held in shape].count(False) == 1:
-            found.append(f"{place}: enum {name} {{ {', '.join(word for word, _ in shape)} }}")
-        elif any(word in ("Refused", "Unknown") for word, _ in shape):
+        of_two = len(shape) == 2 and [held for _, held in shape].count(False) == 1
+        if of_two or any(word in ("Refused", "Unknown") for word, _ in shape):
             found.append(f"{place}: enum {name} {{ {', '.join(word for word, _ in shape)} }}")
     return found
 
@@ -66,7 +66,8 @@ def flagged():
 
 def functions():
     for path, text in texts.items():
-        for match in re.finditer(r"^( *)(?:pub(?:\(crate\))? )?fn (\w+)(.*?)^\1\}", text, re.S | re.M):
+        head = r"^( *)(?:pub(?:\(crate\))? )?fn (\w+)(.*?)^\1\}"
+        for match in re.finditer(head, text, re.S | re.M):
             number = text[: match.start()].count("\n") + 1
             code = re.sub(r"(ensures|requires)\b.*?\{.*?\}\n", "", match[3], flags=re.S)
             code = re.sub(r"//.*", "", code)
@@ -88,19 +89,25 @@ def twins():
     return found
 
 
+COPIES = r"^\s*(\w+): (self|old|core|run|tray|passed|held|message|ring)\.\1,$"
+NUMBERS = r"\* (256|65536) \+|num::wrapping_|fn least|left_from\(|% 65536\) as"
 points = [
     ("1 enums of the shape of Option or Result", option_shaped()),
     ("1 a refusal's number or a flag beside a value", flagged()),
-    ("1 functions that answer a refusal by number", lines_of(r"fn \w*(refusal|write)\w*\(.*-> u(8|32)")),
-    ("1 refusals and answers tested as numbers", lines_of(r"(refusal|number|answer) (!=|==|<) 0|\breturn [1-9];|high: 16|== 16\b")),
+    ("1 functions that answer a refusal by number",
+     lines_of(r"fn \w*(refusal|write)\w*\(.*-> u(8|32)")),
+    ("1 refusals and answers tested as numbers",
+     lines_of(r"(refusal|number|answer) (!=|==|<) 0|\breturn [1-9];|high: 16|== 16\b")),
     ("2 pairs of functions three quarters the same", twins()),
     ("3 loops that count by hand", lines_of(r"^\s*(while|loop)\b")),
     ("4 predicates written out arm by arm", lines_of(r"=> (true|false),$")),
-    ("4 fields copied by hand", lines_of(r"^\s*(\w+): (self|old|core|run|tray|passed|held|message|ring)\.\1,$")),
-    ("4 conversions and limits by hand", lines_of(r"\* (256|65536) \+|num::wrapping_|fn least|left_from\(|% 65536\) as")),
+    ("4 fields copied by hand", lines_of(COPIES)),
+    ("4 conversions and limits by hand", lines_of(NUMBERS)),
     ("5 a buffer and a place in it as parameters", lines_of(r"out: &mut \[u8\], at: usize")),
-    ("5 the queue's ring and its places apart", lines_of(r"places: &(mut )?\[u16; 256\]|ring: Ring")),
-    ("6 a buffer with a length beside it", lines_of(r"have: usize|\[0; (4096|65536|524288|20|4|2)\]")),
+    ("5 the queue's ring and its places apart",
+     lines_of(r"places: &(mut )?\[u16; 256\]|ring: Ring")),
+    ("6 a buffer with a length beside it",
+     lines_of(r"have: usize|\[0; (4096|65536|524288|20|4|2)\]")),
     ("7 a number that picks a step", lines_of(r"^\s*(\d+|b'.') => \w+.*\(.*,$")),
 ]
 for name, found in points:

@@ -1,5 +1,5 @@
--- Each public contract of the crate allows one outcome alone: one run, and one content of every cell
--- and byte that was lent. Assumes nothing.
+-- Each public contract of the crate allows one outcome alone: one run, and one content of every
+-- cell and byte that was lent. Assumes nothing.
 use mathlib.Core.List.{[]}
 use Rattle.rules.proofs.Determined.{Determined, DeterminedAs, same}
 use Rattle.lines.specs.Page.{on}
