@@ -21,10 +21,10 @@ pub extern "C" fn listrabor_room(bytes: usize) -> usize
 pub extern "C" fn listrabor_refusal(bytes: usize, words: usize, room: usize) -> u32
     ensures { result ≡ size_refusal bytes words room }
 {
-    match listrabor::listrabor_refusal(bytes, words, room) {
-        None => 0,
-        Some(refusal) => u32::from(u8::from(refusal)),
-    }
+    listrabor::listrabor_refusal(bytes, words, room).map_or(
+        0,
+        |refusal| u32::from(u8::from(refusal)),
+    )
 }
 
 // Runs a recording. Answers how many bytes of text stand in the buffer then: none where a size is

@@ -57,10 +57,7 @@ fn action_of(number: u16, first: u16, second: u16) -> Action {
 }
 
 fn number_of<A: Copy>(answer: Result<A, Refusal>) -> u8 {
-    match answer {
-        Ok(_) => 0,
-        Err(refusal) => u8::from(refusal),
-    }
+    answer.err().map_or(0, u8::from)
 }
 
 // Where it is refused there is no terminal.
