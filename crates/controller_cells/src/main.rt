@@ -14,6 +14,8 @@ use std::io::Write;
 // State and cells, in one write. There is room for both (`nothing_is_cut`): the state takes less
 // than 300 bytes, and 16,384 cells take 163,840, at 10 bytes a line.
 // Each program has its own: what the two share is less than what would name their states.
+// The tray's program has a function like it: one for both would take the state's text as a
+// closure.
 fn print_left<O: Write>(output: &mut O, run: Run, ram: &[u16]) {
     let mut space: [u8; 172032] = [0; 172032];
     let mut page = Page {

@@ -40,7 +40,8 @@ fn read_shared(bytes: &[u8], place: usize, seen: Seen) -> Result<Option<Taken>, 
 }
 
 // Whether a field of the controller's own stands whole at a place and comes in order, by the
-// refusals 5, 7, 5, 9.
+// refusals 5, 7, 5, 9. Document 01's reader has the same tests, for tags of many lengths and behind
+// a test of the tag; with one for both, either would say less of what it refuses.
 fn own_stands(bytes: &[u8], place: usize, size: usize, due: bool) -> Result<(), Refusal>
     requires { (place < length bytes.now) × (size ≤ 4) }
     ensures { refused result ≡ own_refusal bytes.now place size due }

@@ -33,7 +33,8 @@ impl Run {
         }
     }
 
-    // Counts fields that were taken, and their bytes.
+    // Counts fields that were taken, and their bytes. Each run has its own counters, as its
+    // definition has.
     pub(crate) fn pass(&mut self, fields: u64, bytes: u64)
         ensures { self.new ≡ record self.old {
           fields = counted (self.old.fields + fields);

@@ -28,6 +28,9 @@ pub trait Shown {
 #[derive(Clone, Copy)]
 pub struct Hex<T>(pub T);
 
+// Digits are put on a page of their own first. The three that do so differ in what they put and in
+// the room for it: one for all would take both, and be no shorter.
+
 // A decimal number with no leading zeros.
 impl Shown for u16 {
     ghost text_of = { λ number. decimal number };

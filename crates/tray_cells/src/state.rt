@@ -25,7 +25,7 @@ ghost use Rattle.tray_cells.specs.State.{
 
 use lines::Page;
 use message::state::{OpenMessage, Stage};
-use queue::{Queue, Ring};
+use queue::Queue;
 use shown::item::put_item;
 use shown::text::{Hex, Shown, put_text};
 use terminal::state::Core;
@@ -117,24 +117,26 @@ fn put_message(page: &mut Page, message: Option<OpenMessage>)
 // ---- the queue
 
 // The blocks that wait, oldest first.
-fn put_blocks(page: &mut Page, ring: Ring, places: &[u16; 256])
-    ensures { Fits page.old (each_block (blocks_from places.now ring.start ring.count)) page.new }
+fn put_blocks(page: &mut Page, queue: &Queue)
+    ensures { Fits page.old
+        (each_block (blocks_from queue.now.places queue.now.ring.start queue.now.ring.count))
+        page.new }
 {
-    for index in 0..ring.count {
-        let place = (ring.start as usize + index as usize) % 256;
+    for index in 0..queue.ring.count {
+        let place = (queue.ring.start as usize + index as usize) % 256;
         put_text(page, b" ");
-        places[place].put(page);
+        queue.places[place].put(page);
     }
 }
 
-fn put_waiting(page: &mut Page, ring: Ring, places: &[u16; 256])
-    ensures { Fits page.old (waiting_text places.now ring) page.new }
+fn put_waiting(page: &mut Page, queue: &Queue)
+    ensures { Fits page.old (waiting_text queue.now.places queue.now.ring) page.new }
 {
-    if ring.count == 0 {
+    if queue.ring.count == 0 {
         return put_text(page, b"waiting none\n");
     }
     put_text(page, b"waiting");
-    put_blocks(page, ring, places);
+    put_blocks(page, queue);
     put_text(page, b"\n");
 }
 
@@ -142,7 +144,7 @@ fn put_queue(page: &mut Page, queue: &Queue)
     ensures { Fits page.old (queue_text queue.now) page.new }
 {
     put_item(page, b"overflow ", &queue.ring.overflow, b'\n');
-    put_waiting(page, queue.ring, &queue.places);
+    put_waiting(page, queue);
 }
 
 // ---- the terminal

@@ -6,4 +6,4 @@ use Rattle.tray_cells.proofs.state.put_blocks.Given as goal
 
 abbrev pub invariant-loop-index : goal.invariant-loop-index
 invariant-loop-index l =
-    Fits l.initial.page (each_block (blocks_from l.places l.ring.start l.index)) l.page
+    Fits l.initial.page (each_block (blocks_from l.queue.places l.queue.ring.start l.index)) l.page
