@@ -63,7 +63,7 @@ impl<'a> Page<'a> {
         self.put(b"S");
         self.put_words(&[status]);
         self.put_words(words);
-        self.put(b"\n");
+        self.put(&[b'\n']);
     }
 
     // `Q`: a queue read.
