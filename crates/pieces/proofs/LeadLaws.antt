@@ -42,3 +42,26 @@ module _ {Run : Type 0} (course : Course Run) (window : List ℕ) (last : Bool) 
       ∙ ap (λ (stop : Stop). turns course most window last (as_old stop))
       (sym (going_is old.stop goes))
       ∙ so_far
+
+-- ---- and the buffer stays as long as it was, where each turn leaves it as long
+
+pub record Leads {Run : Type 0} (course : Course Run) (window : List ℕ) (last : Bool)
+    (start : Passed Run) (all : ℕ) (old : Passed Run) (left : ℕ) : Type 0 where
+  pub leads : turns course left window last old ≡ turns course all window last start
+  pub out_as_long : length old.out ≡ length start.out
+
+module _ {Run : Type 0} (course : Course Run) (window : List ℕ) (last : Bool) (start : Passed Run)
+    (all : ℕ) (old : Passed Run) (most : ℕ)
+    (so_far : Leads course window last start all old most) where
+  pub leads_as_long : (room left next : ℕ) (new : Run) (made : Passed Run) → 0 < most
+      → is_going old.stop ≡ true → room ≡ length old.out - old.put
+      → TurnsTaken course window room most old.run old.at left new next
+      → made ≡ turn course window last (going_at new next old.put old.out)
+      → length made.out ≡ length old.out → Leads course window last start all made (left - 1)
+  leads_as_long room left next new made some goes is_room row is_made same =
+      record {
+        leads =
+            leads_on course window last start all old most so_far.leads room left next new made
+            some goes is_room row is_made;
+        out_as_long = same ∙ so_far.out_as_long;
+      }
