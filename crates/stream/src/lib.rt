@@ -14,7 +14,9 @@ ghost use Rattle.stream.specs.AsCoded.Turns.{Turned};
 
 mod window;
 
-use crate::window::{BUFFER_BYTES, Window};
+pub use window::Window;
+
+use crate::window::BUFFER_BYTES;
 use pieces::{Runner, Stop};
 use std::io;
 use std::io::{ErrorKind, Read, Write};
@@ -32,8 +34,9 @@ fn write_lines<O: Write>(output: &mut O, lines: &[u8]) -> io::Result<()>
 }
 
 // A turn: a call over the window, whose lines are written and whose bytes are taken, and a read
-// where it needs bytes. Answers whether the run is over.
-fn turn<R: Runner, I: Read, O: Write>(
+// where it needs bytes. Answers whether the run is over. It is public for a loop of another
+// program's own, and its promise is of every runner, steady or not.
+pub fn turn<R: Runner, I: Read, O: Write>(
     run: &mut R,
     ram: &mut [u16],
     window: &mut Window,
