@@ -230,7 +230,7 @@ module _ {Run Error : Type 0} (course : Course Run) {longest : ℕ} (steady : St
         (broken_off last some)
     go (turn.unread is is_left failed) =
         by_failure course start before (suc turns) new left' known' told failed (unread last is)
-    go (turn.ends is is_told) =
+    go (turn.ends is is_left same is_told) =
         let printed = is_printed is (wrote is_told) in
         rw is_told (record { came = finished last is; printed = printed })
     go (turn.stays over hungry is_left same is_told) =

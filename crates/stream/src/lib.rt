@@ -50,9 +50,9 @@ pub fn turn<R: Runner, I: Read, O: Write>(
         (O.contents output.old) (O.contents output.new) result }
 {
     let passed = pieces::run_window(run, ram, window.bytes(), out, window.has_ended());
+    window.take_to(passed.at);
     // no steady course puts more than there is room for
     write_lines(output, &out[..passed.put.min(out.len())])?;
-    window.take_to(passed.at);
     match passed.stop {
         Stop::Over => Ok(true),
         Stop::Going | Stop::Full => Ok(false),

@@ -11,7 +11,8 @@ returns-in_err-write_lines g c =
     turned _ _ _ _ _ _ _ _ _ c.bytes.ensures.few c.bytes.ensures.same c.has_ended.ensures
     c.run_window-passed.ensures _ _ _ _ _ _
     (none_written _ c.from_residual.result c.from_residual.ensures.0)
-    (breaks_off (some_put _ _ _ c.min.ensures (c.in_err-write_lines.ensures.some refl)) refl refl
+    (breaks_off (some_put _ _ _ c.min.ensures (c.in_err-write_lines.ensures.some refl))
+    c.take_to.ensures refl
     c.from_residual.ensures.0)
 
 pub returns-in_err-read-in-Hungry : goal.returns-in_err-read-in-Hungry
@@ -27,7 +28,7 @@ returns-in-Over g c =
     turned _ _ _ _ _ _ _ _ _ c.bytes.ensures.few c.bytes.ensures.same c.has_ended.ensures
     c.run_window-passed.ensures _ _ _ _ _ _
     (lines_written _ _ _ _ _ c.min.ensures c.in_ok-write_lines.ensures.written)
-    (ends c.in-Over.is refl)
+    (ends c.in-Over.is c.take_to.ensures refl refl)
 
 pub returns-in-Going : goal.returns-in-Going
 returns-in-Going g c =
