@@ -14,12 +14,11 @@ ghost use Rattle.stream.specs.AsCoded.Turns.{Turned};
 
 mod window;
 
-pub use window::Window;
-
 use crate::window::BUFFER_BYTES;
 use pieces::{Runner, Stop};
 use std::io;
 use std::io::{ErrorKind, Read, Write};
+pub use window::Window;
 
 // Writes the lines of a call, which cannot fail where there are none.
 fn write_lines<O: Write>(output: &mut O, lines: &[u8]) -> io::Result<()>

@@ -11,5 +11,6 @@ returns-clause-read g c =
     -- so many bytes are those of a read that did not fail, whatever the code makes of its answer
     let came : c.read.result ≡ Ok c.in_ok-count.count = grind arith in
     read_on c.self.inside.bytes c.read.new.buf c.self.inside.have _ c.in_ok-count.count
-    c.self.inside.ended _ _ _ c.self.view_is inside c.self.told (rw came at c.read.ensures.bound).0
-    (search rules) (rw came at c.read.ensures.bytes)
+    c.self.inside.ended _ (g.I.Read.remaining c.args.input.now)
+    (g.I.Read.remaining c.read.new.self) c.self.view_is inside c.self.told
+    (rw came at c.read.ensures.bound).0 (search rules) (rw came at c.read.ensures.bytes)
