@@ -6,6 +6,7 @@
 --     LoopLaws      turn after turn
 --     WholeLaws     what a whole run has printed, and what every run keeps
 --     ReachLaws     how far the contract of a run reaches
+--     Determined    an empty window is one alone
 pub mod ProgressLaws
 pub mod KnownLaws
 pub mod WindowLaws
@@ -13,3 +14,4 @@ pub mod TurnLaws
 pub mod LoopLaws
 pub mod WholeLaws
 pub mod ReachLaws
+pub mod Determined

@@ -43,6 +43,12 @@ use Rattle.stream.proofs.ProgressLaws.{progressed_streamed}
 
 -- ---- how the code comes to it
 
+-- of a turn that fails no line has to be written
+pub none_written : {Error : Type 0} (Wrote : Type 0) (told : Result Bool Error) → IsErr told
+    → OnOk told Wrote
+none_written Wrote (Ok over) failed = absurd (true≢false (sym failed))
+none_written Wrote (Err error) failed = tt
+
 module _ {Run Error : Type 0} (course : Course Run) (old : Run) (left : Left) (out : List ℕ)
     (new : Run) (passed : HeldPassed) (out' bytes : List ℕ) (ended : Bool)
     (few : length left.bytes ≤ buffer_bytes) (is_bytes : bytes ≡ left.bytes)
@@ -66,11 +72,13 @@ module _ {Run Error : Type 0} (course : Course Run) (old : Run) (left : Left) (o
             settled;
       }
 
--- of a turn that fails no line has to be written
-pub none_written : {Error : Type 0} (Wrote : Type 0) (told : Result Bool Error) → IsErr told
-    → OnOk told Wrote
-none_written Wrote (Ok over) failed = absurd (true≢false (sym failed))
-none_written Wrote (Err error) failed = tt
+  -- .. and one that fails, though not all lines of its call were written
+  pub broken : (left' : Left) (given given' held held' : Option (List ℕ)) (told : Result Bool Error)
+      → IsErr told
+      → Settled (passed_of new passed out') left left' given given' told
+      → Turned course old left out new left' given given' held held' told
+  broken left' given given' held held' told failed settled =
+      turned left' given given' held held' told (none_written _ told failed) settled
 
 -- nothing is put where no line is
 pub some_put : (out : List ℕ) (into size : ℕ) → size ≡ min into (length out)
@@ -230,7 +238,7 @@ module _ {Run Error : Type 0} (course : Course Run) {longest : ℕ} (steady : St
         (broken_off last some)
     go (turn.unread is is_left failed) =
         by_failure course start before (suc turns) new left' known' told failed (unread last is)
-    go (turn.ends is is_told) =
+    go (turn.ends is is_left same is_told) =
         let printed = is_printed is (wrote is_told) in
         rw is_told (record { came = finished last is; printed = printed })
     go (turn.stays over hungry is_left same is_told) =

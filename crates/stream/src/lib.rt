@@ -14,10 +14,11 @@ ghost use Rattle.stream.specs.AsCoded.Turns.{Turned};
 
 mod window;
 
-use crate::window::{BUFFER_BYTES, Window};
+use crate::window::BUFFER_BYTES;
 use pieces::{Runner, Stop};
 use std::io;
 use std::io::{ErrorKind, Read, Write};
+pub use window::Window;
 
 // Writes the lines of a call, which cannot fail where there are none.
 fn write_lines<O: Write>(output: &mut O, lines: &[u8]) -> io::Result<()>
@@ -32,8 +33,9 @@ fn write_lines<O: Write>(output: &mut O, lines: &[u8]) -> io::Result<()>
 }
 
 // A turn: a call over the window, whose lines are written and whose bytes are taken, and a read
-// where it needs bytes. Answers whether the run is over.
-fn turn<R: Runner, I: Read, O: Write>(
+// where it needs bytes. Answers whether the run is over. It is public for a loop of another
+// program's own, and its promise is of every runner, steady or not.
+pub fn turn<R: Runner, I: Read, O: Write>(
     run: &mut R,
     ram: &mut [u16],
     window: &mut Window,
@@ -47,9 +49,9 @@ fn turn<R: Runner, I: Read, O: Write>(
         (O.contents output.old) (O.contents output.new) result }
 {
     let passed = pieces::run_window(run, ram, window.bytes(), out, window.has_ended());
+    window.take_to(passed.at);
     // no steady course puts more than there is room for
     write_lines(output, &out[..passed.put.min(out.len())])?;
-    window.take_to(passed.at);
     match passed.stop {
         Stop::Over => Ok(true),
         Stop::Going | Stop::Full => Ok(false),

@@ -8,7 +8,7 @@ use std::marker::Model;
 pub(crate) const BUFFER_BYTES: usize = 65536;
 
 #[derive(Drop)]
-pub(crate) struct Window {
+pub struct Window {
     bytes: [u8; BUFFER_BYTES],
     // so many of them count
     have: usize,
@@ -35,7 +35,8 @@ impl Window {
     ghost use Rattle.stream.specs.Progress.{buffer_bytes};
     ghost use Rattle.stream.specs.AsCoded.Turns.{nothing_left, behind, ReadOn};
 
-    pub(crate) fn empty() -> Window
+    // Nothing was read yet.
+    pub fn empty() -> Window
         ensures { result ≡ nothing_left }
     {
         Window {

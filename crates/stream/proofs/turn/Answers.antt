@@ -3,22 +3,26 @@ use borrow.Author.Tests.{leb-false}
 use Rattle.std.proofs.Common.{refl, sym, inl, inr, ◌∙◌}
 use Rattle.pieces.proofs.StopLaws.{going_over, going_hungry, full_over, full_hungry}
 use Rattle.stream.specs.AsCoded.Turns.{breaks_off, unread, ends, stays, reads}
-use Rattle.stream.proofs.TurnLaws.{turned, none_written, some_put, lines_written}
+use Rattle.stream.proofs.TurnLaws.{turned, broken, some_put, lines_written}
 use Rattle.stream.proofs.turn.Goals as goal
 
 pub returns-in_err-write_lines : goal.returns-in_err-write_lines
 returns-in_err-write_lines g c =
-    turned _ _ _ _ _ _ _ _ _ c.bytes.ensures.few c.bytes.ensures.same c.has_ended.ensures
-    c.run_window-passed.ensures _ _ _ _ _ _
-    (none_written _ c.from_residual.result c.from_residual.ensures.0)
-    (breaks_off (some_put _ _ _ c.min.ensures (c.in_err-write_lines.ensures.some refl)) refl refl
-    c.from_residual.ensures.0)
+    broken _ _ _ _ _ _ _ _ _ c.bytes.ensures.few c.bytes.ensures.same c.has_ended.ensures
+    c.run_window-passed.ensures _ _ _ _ _ _ c.from_residual.ensures.0
+    (breaks_off (some_put _ _ _ c.min.ensures (c.in_err-write_lines.ensures.some refl))
+    c.take_to.ensures refl c.from_residual.ensures.0)
+
+pub returns-then-is_full : goal.returns-then-is_full
+returns-then-is_full g c =
+    broken _ _ _ _ _ _ _ _ _ c.bytes.ensures.few c.bytes.ensures.same c.has_ended.ensures
+    c.run_window-passed.ensures _ _ _ _ _ _ refl (unread c.in-Hungry.is c.take_to.ensures refl)
 
 pub returns-in_err-read-in-Hungry : goal.returns-in_err-read-in-Hungry
 returns-in_err-read-in-Hungry g c =
-    turned _ _ _ _ _ _ _ _ _ c.bytes.ensures.few c.bytes.ensures.same c.has_ended.ensures
+    broken _ _ _ _ _ _ _ _ _ c.bytes.ensures.few c.bytes.ensures.same c.has_ended.ensures
     c.run_window-passed.ensures _ _ _ _ _ _
-    (none_written _ _ c.from_residual-in_err-read-in-Hungry.ensures.0)
+    c.from_residual-in_err-read-in-Hungry.ensures.0
     (unread c.in-Hungry.is (c.in_err-read-in-Hungry.ensures.kept ∙ c.take_to.ensures)
     c.from_residual-in_err-read-in-Hungry.ensures.0)
 
@@ -27,7 +31,7 @@ returns-in-Over g c =
     turned _ _ _ _ _ _ _ _ _ c.bytes.ensures.few c.bytes.ensures.same c.has_ended.ensures
     c.run_window-passed.ensures _ _ _ _ _ _
     (lines_written _ _ _ _ _ c.min.ensures c.in_ok-write_lines.ensures.written)
-    (ends c.in-Over.is refl)
+    (ends c.in-Over.is c.take_to.ensures refl refl)
 
 pub returns-in-Going : goal.returns-in-Going
 returns-in-Going g c =

@@ -58,16 +58,18 @@ pub record ReadOn (old new : Left) (given given' : Option (List ℕ)) : Type 0 w
 
 -- ---- what a call leaves to do
 
+-- the bytes of the fields that it took are gone in each case
 pub data Settled {Run Error : Type 0} (call : Passed Run) (old new : Left)
     (given given' : Option (List ℕ)) (told : Result Bool Error) : Type 0 where
   -- its lines were not all taken, be they the last of the run: nothing is read
-  breaks_off : call.put ≢ 0 → new ≡ old → given' ≡ given → IsErr told
+  breaks_off : call.put ≢ 0 → new ≡ behind call.at old → given' ≡ given → IsErr told
       → Settled call old new given given' told
   -- it needed bytes, and a read failed, or there was no room for one
   unread : call.stop ≡ Hungry → new ≡ behind call.at old → IsErr told
       → Settled call old new given given' told
   -- the run is over
-  ends : call.stop ≡ Over → told ≡ Ok true → Settled call old new given given' told
+  ends : call.stop ≡ Over → new ≡ behind call.at old → given' ≡ given → told ≡ Ok true
+      → Settled call old new given given' told
   -- it had no room for more
   stays : call.stop ≢ Over → call.stop ≢ Hungry → new ≡ behind call.at old → given' ≡ given
       → told ≡ Ok false → Settled call old new given given' told
