@@ -1,9 +1,10 @@
 // Runs a case that is a recording: the printed lines, the state and the whole of the card are
 // compared.
 use crate::notation;
-use crate::notation::{Bytes, CASE_BYTES};
+use crate::notation::Bytes;
 use message::state::Stage;
 use queue::Ring;
+use std::iter;
 use terminal::state::Core;
 use tray::Tray;
 
@@ -25,7 +26,7 @@ fn number_of(stage: Stage) -> u8 {
     }
 }
 
-pub(crate) fn put_state(out: &mut Bytes, core: Core, ring: Ring) {
+pub(crate) fn put_state<const ROOM: usize>(out: &mut Bytes<ROOM>, core: Core, ring: Ring) {
     notation::put_words(out, &[core.status, core.last]);
     let [_, waiting] = ring.count.to_be_bytes();
     notation::put_bytes(out, &[marks_of(core, ring), waiting]);
@@ -38,8 +39,12 @@ pub(crate) fn put_state(out: &mut Bytes, core: Core, ring: Ring) {
 
 // ---- a case
 
+// The bytes of a recording and of the state that it must leave, and those of what it leaves, at the
+// most.
+const CASE_BYTES: usize = 65536;
+
 // What a recording prints, and leaves on a new card.
-fn put_run(out: &mut Bytes, recording: &[u8]) {
+fn put_run(out: &mut Bytes<CASE_BYTES>, recording: &[u8]) {
     let mut tray = Tray::at_start();
     let mut ram = [0; 16384];
     let mut lines = [0; CASE_BYTES];
@@ -49,11 +54,26 @@ fn put_run(out: &mut Bytes, recording: &[u8]) {
     notation::put_others(out, &ram, 0);
 }
 
+// Whether a recording prints these lines, and leaves this.
+fn leaves(recording: &[u8], lines: &[u8], wanted: &[u8]) -> bool {
+    let mut left = Bytes::<CASE_BYTES>::new();
+    put_run(&mut left, recording);
+    let left = left.as_slice();
+    // the lines are looked for where zeros stand behind what is left
+    let printed = left.iter().chain(iter::repeat(&0));
+    lines.len() <= CASE_BYTES
+        && lines.iter().zip(printed).all(|(line, byte)| line == byte)
+        && left.get(lines.len()..).unwrap_or(&[]) == wanted
+}
+
 // Whether a case comes out as it should, behind what its group begins with.
 pub(crate) fn holds(before: &[u8], case: &[u8]) -> bool {
     let (_title, rest) = notation::cut(case, b'\n');
     let (text, rest) = notation::cut(rest, b'>');
     let (_, rest) = notation::cut(rest, b'\n');
     let (lines, state) = notation::cut(rest, b'=');
-    notation::leaves(before, text, lines, state, CASE_BYTES, put_run)
+    let mut bytes = Bytes::<CASE_BYTES>::new();
+    notation::leaves(&mut bytes, before, text, state, |recording, wanted| {
+        leaves(recording, lines, wanted)
+    })
 }
