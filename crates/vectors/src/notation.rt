@@ -45,19 +45,19 @@ pub(crate) fn cut(text: &[u8], byte: u8) -> (&[u8], &[u8]) {
 // ---- what is left
 
 // Puts each byte that there is room for.
-pub(crate) fn put_bytes<const ROOM: usize>(out: &mut Bytes<ROOM>, bytes: &[u8]) {
+pub(crate) fn put_bytes<W: Write>(out: &mut W, bytes: &[u8]) {
     let _ = out.write(bytes);
 }
 
 // Puts words, high byte first.
-pub(crate) fn put_words<const ROOM: usize>(out: &mut Bytes<ROOM>, words: &[u16]) {
+pub(crate) fn put_words<W: Write>(out: &mut W, words: &[u16]) {
     for word in words {
         put_bytes(out, &word.to_be_bytes());
     }
 }
 
 // Every word that is not the given one, behind its place.
-pub(crate) fn put_others<const ROOM: usize>(out: &mut Bytes<ROOM>, words: &[u16], given: u16) {
+pub(crate) fn put_others<W: Write>(out: &mut W, words: &[u16], given: u16) {
     for (place, &word) in (0..=u16::MAX).zip(words) {
         if word != given {
             put_words(out, &[place, word]);

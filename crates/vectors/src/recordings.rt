@@ -4,7 +4,7 @@ use crate::notation;
 use crate::notation::Bytes;
 use message::state::Stage;
 use queue::Ring;
-use std::iter;
+use std::io::Write;
 use terminal::state::Core;
 use tray::Tray;
 
@@ -26,7 +26,7 @@ fn number_of(stage: Stage) -> u8 {
     }
 }
 
-pub(crate) fn put_state<const ROOM: usize>(out: &mut Bytes<ROOM>, core: Core, ring: Ring) {
+pub(crate) fn put_state<W: Write>(out: &mut W, core: Core, ring: Ring) {
     notation::put_words(out, &[core.status, core.last]);
     let [_, waiting] = ring.count.to_be_bytes();
     notation::put_bytes(out, &[marks_of(core, ring), waiting]);
@@ -43,27 +43,24 @@ pub(crate) fn put_state<const ROOM: usize>(out: &mut Bytes<ROOM>, core: Core, ri
 // most.
 const CASE_BYTES: usize = 65536;
 
-// What a recording prints, and leaves on a new card.
-fn put_run(out: &mut Bytes<CASE_BYTES>, recording: &[u8]) {
+// What a recording prints, and leaves on a new card. Answers how many bytes that is.
+fn put_run(out: &mut [u8], recording: &[u8]) -> usize {
     let mut tray = Tray::at_start();
     let mut ram = [0; 16384];
-    let mut lines = [0; CASE_BYTES];
-    let passed = pieces::run_window(&mut tray, &mut ram, recording, &mut lines, true);
-    notation::put_bytes(out, lines.get(..passed.put).unwrap_or(&[]));
-    put_state(out, tray.core, tray.queue.ring);
-    notation::put_others(out, &ram, 0);
+    let passed = pieces::run_window(&mut tray, &mut ram, recording, out, true);
+    let room = out.len();
+    let mut rest = out.get_mut(passed.put..).unwrap_or(&mut []);
+    put_state(&mut rest, tray.core, tray.queue.ring);
+    notation::put_others(&mut rest, &ram, 0);
+    room.saturating_sub(rest.len())
 }
 
 // Whether a recording prints these lines, and leaves this.
 fn leaves(recording: &[u8], lines: &[u8], wanted: &[u8]) -> bool {
-    let mut left = Bytes::<CASE_BYTES>::new();
-    put_run(&mut left, recording);
-    let left = left.as_slice();
     // the lines are looked for where zeros stand behind what is left
-    let printed = left.iter().chain(iter::repeat(&0));
-    lines.len() <= CASE_BYTES
-        && lines.iter().zip(printed).all(|(line, byte)| line == byte)
-        && left.get(lines.len()..).unwrap_or(&[]) == wanted
+    let mut left = [0; CASE_BYTES];
+    let size = put_run(&mut left, recording);
+    left.starts_with(lines) && left.get(lines.len()..size).unwrap_or(&[]) == wanted
 }
 
 // Whether a case comes out as it should, behind what its group begins with.
