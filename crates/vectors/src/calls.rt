@@ -106,7 +106,7 @@ fn perform(action: Action, terminal: &mut Terminal, ram: &mut [u16]) -> u8 {
 const CALL_BYTES: usize = 4096;
 
 // What a call leaves, over as much of a RAM as the row says.
-fn put_call(out: &mut Bytes, given: &[u8]) {
+fn put_call(out: &mut Bytes<CALL_BYTES>, given: &[u8]) {
     let row = notation::row_of(given);
     let [action, first, second, size, _, _, _, _, _, place, ..] = row;
     let mut cells = [GIVEN; 16385];
@@ -126,9 +126,17 @@ fn put_call(out: &mut Bytes, given: &[u8]) {
     notation::put_others(out, ram, GIVEN);
 }
 
+// Whether a call leaves this. One that cannot be run leaves nothing.
+fn leaves(given: &[u8], wanted: &[u8]) -> bool {
+    let mut left = Bytes::<CALL_BYTES>::new();
+    put_call(&mut left, given);
+    !left.is_empty() && left.as_slice() == wanted
+}
+
 // Whether a case comes out as it should, behind what its group begins with.
 pub(crate) fn holds(before: &[u8], case: &[u8]) -> bool {
     let (row, rest) = notation::cut(case, b'=');
     let (state, _remark) = notation::cut(rest, b'#');
-    notation::leaves(before, row, b"", state, CALL_BYTES, put_call)
+    let mut bytes = Bytes::<CALL_BYTES>::new();
+    notation::leaves(&mut bytes, before, row, state, leaves)
 }

@@ -25,13 +25,11 @@
 // `calls` says what a case that is a call has.
 
 use arrayvec::ArrayVec;
+use std::io::Write;
 use std::{array, iter};
 
-// The bytes of a case, at the most.
-pub(crate) const CASE_BYTES: usize = 65536;
-
-// What a case gives, or what it leaves; what has no room is cut.
-pub(crate) type Bytes = ArrayVec<u8, CASE_BYTES>;
+// What a case gives, or what a call leaves; what has no room is cut.
+pub(crate) type Bytes<const ROOM: usize> = ArrayVec<u8, ROOM>;
 
 // The words of a call.
 pub(crate) type Row = [u16; 16];
@@ -47,21 +45,19 @@ pub(crate) fn cut(text: &[u8], byte: u8) -> (&[u8], &[u8]) {
 // ---- what is left
 
 // Puts each byte that there is room for.
-pub(crate) fn put_bytes(out: &mut Bytes, bytes: &[u8]) {
-    for &byte in bytes {
-        let _ = out.try_push(byte);
-    }
+pub(crate) fn put_bytes<W: Write>(out: &mut W, bytes: &[u8]) {
+    let _ = out.write(bytes);
 }
 
 // Puts words, high byte first.
-pub(crate) fn put_words(out: &mut Bytes, words: &[u16]) {
+pub(crate) fn put_words<W: Write>(out: &mut W, words: &[u16]) {
     for word in words {
         put_bytes(out, &word.to_be_bytes());
     }
 }
 
 // Every word that is not the given one, behind its place.
-pub(crate) fn put_others(out: &mut Bytes, words: &[u16], given: u16) {
+pub(crate) fn put_others<W: Write>(out: &mut W, words: &[u16], given: u16) {
     for (place, &word) in (0..=u16::MAX).zip(words) {
         if word != given {
             put_words(out, &[place, word]);
@@ -81,7 +77,7 @@ fn digit(byte: u8) -> Option<u8> {
 }
 
 // Puts the bytes that a text's hex digits spell, two by two; every other byte is for the eye.
-fn put_hex(out: &mut Bytes, text: &[u8]) {
+fn put_hex<const ROOM: usize>(out: &mut Bytes<ROOM>, text: &[u8]) {
     let mut high: Option<u8> = None;
     for low in text.iter().filter_map(|&byte| digit(byte)) {
         match high.take() {
@@ -101,33 +97,25 @@ pub(crate) fn row_of(bytes: &[u8]) -> Row {
 
 // ---- a case
 
-// Whether a case leaves what it should. Given are the bytes that its text spells, behind those that
-// its group begins with; it must leave the lines and then the bytes that the state spells. What is
-// given and the state have so much room together. One that cannot be run leaves nothing.
-pub(crate) fn leaves<F: Fn(&mut Bytes, &[u8])>(
+// Whether a case leaves what it should, by a comparison of what is given with that. Given are the
+// bytes that its text spells, behind those that its group begins with; it must leave those that the
+// state spells. The two have the room together that is lent for them, and empty.
+pub(crate) fn leaves<const ROOM: usize, F: Fn(&[u8], &[u8]) -> bool>(
+    bytes: &mut Bytes<ROOM>,
     before: &[u8],
     text: &[u8],
-    lines: &[u8],
     state: &[u8],
-    room: usize,
-    put_left: F,
+    is_left: F,
 ) -> bool
-    requires { F.IsAlwaysCallable put_left }
+    requires { F.IsAlwaysCallable is_left }
 {
-    let mut bytes = Bytes::new();
-    put_hex(&mut bytes, before);
-    put_hex(&mut bytes, text);
-    bytes.truncate(room);
-    let mut left = Bytes::new();
-    put_left(&mut left, bytes.as_slice());
+    put_hex(bytes, before);
+    put_hex(bytes, text);
     let given = bytes.len();
-    put_hex(&mut bytes, state);
-    bytes.truncate(room);
-    // the lines are looked for where zeros stand behind what is left
-    let mut printed = [0; CASE_BYTES];
-    printed[..left.len()].copy_from_slice(left.as_slice());
-    !left.is_empty()
-        && printed.starts_with(lines)
-        && left.as_slice().get(lines.len()..).unwrap_or(&[])
-            == bytes.as_slice().get(given..).unwrap_or(&[])
+    put_hex(bytes, state);
+    let bytes = bytes.as_slice();
+    is_left(
+        bytes.get(..given).unwrap_or(&[]),
+        bytes.get(given..).unwrap_or(&[]),
+    )
 }

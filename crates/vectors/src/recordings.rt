@@ -1,9 +1,10 @@
 // Runs a case that is a recording: the printed lines, the state and the whole of the card are
 // compared.
 use crate::notation;
-use crate::notation::{Bytes, CASE_BYTES};
+use crate::notation::Bytes;
 use message::state::Stage;
 use queue::Ring;
+use std::io::Write;
 use terminal::state::Core;
 use tray::Tray;
 
@@ -25,7 +26,7 @@ fn number_of(stage: Stage) -> u8 {
     }
 }
 
-pub(crate) fn put_state(out: &mut Bytes, core: Core, ring: Ring) {
+pub(crate) fn put_state<W: Write>(out: &mut W, core: Core, ring: Ring) {
     notation::put_words(out, &[core.status, core.last]);
     let [_, waiting] = ring.count.to_be_bytes();
     notation::put_bytes(out, &[marks_of(core, ring), waiting]);
@@ -38,15 +39,28 @@ pub(crate) fn put_state(out: &mut Bytes, core: Core, ring: Ring) {
 
 // ---- a case
 
-// What a recording prints, and leaves on a new card.
-fn put_run(out: &mut Bytes, recording: &[u8]) {
+// The bytes of a recording and of the state that it must leave, and those of what it leaves, at the
+// most.
+const CASE_BYTES: usize = 65536;
+
+// What a recording prints, and leaves on a new card. Answers how many bytes that is.
+fn put_run(out: &mut [u8], recording: &[u8]) -> usize {
     let mut tray = Tray::at_start();
     let mut ram = [0; 16384];
-    let mut lines = [0; CASE_BYTES];
-    let passed = pieces::run_window(&mut tray, &mut ram, recording, &mut lines, true);
-    notation::put_bytes(out, lines.get(..passed.put).unwrap_or(&[]));
-    put_state(out, tray.core, tray.queue.ring);
-    notation::put_others(out, &ram, 0);
+    let passed = pieces::run_window(&mut tray, &mut ram, recording, out, true);
+    let room = out.len();
+    let mut rest = out.get_mut(passed.put..).unwrap_or(&mut []);
+    put_state(&mut rest, tray.core, tray.queue.ring);
+    notation::put_others(&mut rest, &ram, 0);
+    room.saturating_sub(rest.len())
+}
+
+// Whether a recording prints these lines, and leaves this.
+fn leaves(recording: &[u8], lines: &[u8], wanted: &[u8]) -> bool {
+    // the lines are looked for where zeros stand behind what is left
+    let mut left = [0; CASE_BYTES];
+    let size = put_run(&mut left, recording);
+    left.starts_with(lines) && left.get(lines.len()..size).unwrap_or(&[]) == wanted
 }
 
 // Whether a case comes out as it should, behind what its group begins with.
@@ -55,5 +69,8 @@ pub(crate) fn holds(before: &[u8], case: &[u8]) -> bool {
     let (text, rest) = notation::cut(rest, b'>');
     let (_, rest) = notation::cut(rest, b'\n');
     let (lines, state) = notation::cut(rest, b'=');
-    notation::leaves(before, text, lines, state, CASE_BYTES, put_run)
+    let mut bytes = Bytes::<CASE_BYTES>::new();
+    notation::leaves(&mut bytes, before, text, state, |recording, wanted| {
+        leaves(recording, lines, wanted)
+    })
 }
