@@ -6,7 +6,7 @@
 --     LoopLaws      turn after turn
 --     WholeLaws     what a whole run has printed, and what every run keeps
 --     ReachLaws     how far the contract of a run reaches
---     Determined    an empty window is one alone
+--     Determined    what a window tells is one outcome alone
 pub mod ProgressLaws
 pub mod KnownLaws
 pub mod WindowLaws

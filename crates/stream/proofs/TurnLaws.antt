@@ -4,12 +4,11 @@ use mathlib.Core.Path.{◌≡◌, refl, sym, ap, subst, ◌∙◌}
 use mathlib.Core.Logic.{◌≢◌}
 use mathlib.Core.Bool.{Bool, true, false, true≢false}
 use mathlib.Core.List.{List, [], ◌∷◌, ◌++◌, append-nil}
-use Prim.Native.Nat.{ℕ, suc, ◌≤◌, ◌<◌, min}
+use Prim.Native.Nat.{ℕ, suc, ◌≤◌, ◌<◌}
 use native.Mathlib.Omega.{arith}
 use lib.ListN.{length, take, length-drop}
 use Rattle.std.specs.Prelude.{Option, Some, None, IfSome, Result, Ok, Err, IsErr, OnOk}
 use Rattle.std.specs.Io.KnownBytes.{Appends, Consumes, IsAtEnd}
-use Rattle.std.proofs.lemmas.List.{take_min}
 use Rattle.pieces.specs.declared.window.Passed.{Passed as HeldPassed}
 use Rattle.pieces.specs.declared.stop.Stop.{Stop}
 use Rattle.pieces.specs.declared.stop.Stop.TheVariants.{Going, Hungry, Full, Over}
@@ -81,19 +80,12 @@ module _ {Run Error : Type 0} (course : Course Run) (old : Run) (left : Left) (o
       turned left' given given' held held' told (none_written _ told failed) settled
 
 -- nothing is put where no line is
-pub some_put : (out : List ℕ) (into size : ℕ) → size ≡ min into (length out)
-    → take size out ≢ [] → into ≢ 0
-some_put out into size is_size some nothing =
-    let none : size ≡ 0 = omega (arith, is_size, nothing) in
-    some (rw none refl)
+pub some_put : (out : List ℕ) (into : ℕ) → take into out ≢ [] → into ≢ 0
+some_put out into some nothing = some (rw nothing refl)
 
--- a part that is as long as the buffer at the most is what was put
-pub lines_written : (held held' : Option (List ℕ)) (out : List ℕ) (into size : ℕ)
-    → size ≡ min into (length out) → Appends held held' (take size out)
-    → Appends held held' (take into out)
-lines_written held held' out into size is_size =
-    subst (Appends held held')
-    (ap (λ (any : ℕ). take any out) is_size ∙ take_min into out)
+-- something is put where there is no room for it
+pub past_put : (room into : ℕ) → room < into → into ≢ 0
+past_put room into past nothing = omega (arith, past, nothing)
 
 -- ---- how far it has come
 

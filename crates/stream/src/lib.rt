@@ -50,8 +50,11 @@ pub fn turn<R: Runner, I: Read, O: Write>(
 {
     let passed = pieces::run_window(run, ram, window.bytes(), out, window.has_ended());
     window.take_to(passed.at);
-    // no steady course puts more than there is room for
-    write_lines(output, &out[..passed.put.min(out.len())])?;
+    // no steady course puts more than there is room for, and one that did breaks off
+    if out.len() < passed.put {
+        return Err(ErrorKind::StorageFull.into());
+    }
+    write_lines(output, &out[..passed.put])?;
     match passed.stop {
         Stop::Over => Ok(true),
         Stop::Going | Stop::Full => Ok(false),

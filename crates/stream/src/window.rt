@@ -46,14 +46,16 @@ impl Window {
         }
     }
 
-    pub(crate) fn bytes(&self) -> &[u8]
+    // What was read and not taken yet.
+    pub fn bytes(&self) -> &[u8]
         ensures same { result.now ≡ self.now.bytes }
         ensures few { length self.now.bytes ≤ buffer_bytes }
     {
         &self.bytes[..self.have]
     }
 
-    pub(crate) fn has_ended(&self) -> bool
+    // Whether a read has found the end of the input.
+    pub fn has_ended(&self) -> bool
         ensures { result ≡ self.now.ended }
     {
         self.ended

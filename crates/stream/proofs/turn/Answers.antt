@@ -3,15 +3,21 @@ use borrow.Author.Tests.{leb-false}
 use Rattle.std.proofs.Common.{refl, sym, inl, inr, ◌∙◌}
 use Rattle.pieces.proofs.StopLaws.{going_over, going_hungry, full_over, full_hungry}
 use Rattle.stream.specs.AsCoded.Turns.{breaks_off, unread, ends, stays, reads}
-use Rattle.stream.proofs.TurnLaws.{turned, broken, some_put, lines_written}
+use Rattle.stream.proofs.TurnLaws.{turned, broken, past_put, some_put}
 use Rattle.stream.proofs.turn.Goals as goal
+
+pub returns-then-out-passed : goal.returns-then-out-passed
+returns-then-out-passed g c =
+    broken _ _ _ _ _ _ _ _ _ c.bytes.ensures.few c.bytes.ensures.same c.has_ended.ensures
+    c.run_window-passed.ensures _ _ _ _ _ _ refl
+    (breaks_off (past_put _ _ c.if-out-passed.true) c.take_to.ensures refl refl)
 
 pub returns-in_err-write_lines : goal.returns-in_err-write_lines
 returns-in_err-write_lines g c =
     broken _ _ _ _ _ _ _ _ _ c.bytes.ensures.few c.bytes.ensures.same c.has_ended.ensures
     c.run_window-passed.ensures _ _ _ _ _ _ c.from_residual.ensures.0
-    (breaks_off (some_put _ _ _ c.min.ensures (c.in_err-write_lines.ensures.some refl))
-    c.take_to.ensures refl c.from_residual.ensures.0)
+    (breaks_off (some_put _ _ (c.in_err-write_lines.ensures.some refl)) c.take_to.ensures refl
+    c.from_residual.ensures.0)
 
 pub returns-then-is_full : goal.returns-then-is_full
 returns-then-is_full g c =
@@ -29,15 +35,13 @@ returns-in_err-read-in-Hungry g c =
 pub returns-in-Over : goal.returns-in-Over
 returns-in-Over g c =
     turned _ _ _ _ _ _ _ _ _ c.bytes.ensures.few c.bytes.ensures.same c.has_ended.ensures
-    c.run_window-passed.ensures _ _ _ _ _ _
-    (lines_written _ _ _ _ _ c.min.ensures c.in_ok-write_lines.ensures.written)
+    c.run_window-passed.ensures _ _ _ _ _ _ c.in_ok-write_lines.ensures.written
     (ends c.in-Over.is c.take_to.ensures refl refl)
 
 pub returns-in-Going : goal.returns-in-Going
 returns-in-Going g c =
     turned _ _ _ _ _ _ _ _ _ c.bytes.ensures.few c.bytes.ensures.same c.has_ended.ensures
-    c.run_window-passed.ensures _ _ _ _ _ _
-    (lines_written _ _ _ _ _ c.min.ensures c.in_ok-write_lines.ensures.written)
+    c.run_window-passed.ensures _ _ _ _ _ _ c.in_ok-write_lines.ensures.written
     (elim c.in-Going.is [
       | inl is ↦
           stays (λ same. going_over (sym is ∙ same)) (λ same. going_hungry (sym is ∙ same))
@@ -50,8 +54,7 @@ returns-in-Going g c =
 pub returns-in_ok-read-in-Hungry : goal.returns-in_ok-read-in-Hungry
 returns-in_ok-read-in-Hungry g c =
     turned _ _ _ _ _ _ _ _ _ c.bytes.ensures.few c.bytes.ensures.same c.has_ended.ensures
-    c.run_window-passed.ensures _ _ _ _ _ _
-    (lines_written _ _ _ _ _ c.min.ensures c.in_ok-write_lines.ensures.written)
+    c.run_window-passed.ensures _ _ _ _ _ _ c.in_ok-write_lines.ensures.written
     (reads c.in-Hungry.is c.take_to.ensures
     (leb-false _ _ (sym c.is_full.ensures ∙ c.if-is_full.false))
     c.in_ok-read-in-Hungry.ensures.read refl)
